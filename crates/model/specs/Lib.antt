@@ -1,0 +1,15 @@
+pub mod Model
+pub mod Count
+pub mod Ties
+pub mod Order
+pub mod Number
+pub mod Outdating
+pub mod Window
+pub mod Fit
+pub mod Gcd
+pub mod Multiple
+pub mod Later
+pub mod Slots
+pub mod Equation3
+pub mod Checks
+pub mod Worked

@@ -1,0 +1,202 @@
+-- The periodic-delayed model: what this project means by a message's number, its window, its slots.
+-- It follows source 000 (Cadoret and others), sections II and III, as document 01 words them. Each definition stands under the sentence
+-- or equation that it writes down. There are definitions only, and all of them compute; the laws stand in the files beside this one.
+-- Ticks, jobs and slots count from 0, message numbers from 1. A message is two numbers: its sender's row i and its job k.
+-- Totals over the rows are `sum f rows` and `most f rows` (the greatest) of common's Totals; `only b n` is n where b is true, else 0.
+-- Three rules stand alone, because requests will change them: `hasDeadline`, `precedes` and `wantedFor`.
+use Prim.Native.Nat.{ℕ, zero, suc, _+_, _-_, _*_, _/_, _%_, _<_, _≤_}
+use mathlib.Core.Bool.{Bool, true, false, cond, _&&_}
+use mathlib.Core.Logic.{_⊎_}
+use mathlib.Core.Path.{_≡_}
+use lib.Dec.{leb, ltb, eqb}
+use Rattle.common.specs.Totals.{only, sum, most}
+
+-- ## One task, with period P and deadline D
+
+-- "Job k (from 0) is released at kP,
+abbrev pub released : ℕ → ℕ → ℕ
+released P k = k * P
+
+-- has its deadline at kP + D."
+abbrev pub due : ℕ → ℕ → ℕ → ℕ
+due P D k = k * P + D
+
+-- Equation 1, one task's share: how many of its jobs have their deadline at or before t.
+-- "Before tick 0 the count is 0", and so it is before the first deadline.
+unfoldable pub count : ℕ → ℕ → ℕ → ℕ
+count P D t = cond (ltb t D) 0 ((t - D) / P + 1)
+
+-- Collide(s, t): one of its jobs has its deadline at t.
+unfoldable pub hasDeadline : ℕ → ℕ → ℕ → Bool
+hasDeadline P D t = leb D t && eqb ((t - D) % P) 0
+
+-- ## A queue
+
+-- "A queue has one receiver and at least one sender." The tasks are the rows of a table, and each column is a function of the row.
+pub record Queue : Type 0 where
+  pub rows : ℕ
+  pub period : ℕ → ℕ
+  pub deadline : ℕ → ℕ
+  pub sends : ℕ → Bool
+  pub receiver : ℕ
+
+abbrev pub receiverPeriod : Queue → ℕ
+receiverPeriod q = q .period (q .receiver)
+
+abbrev pub receiverDeadline : Queue → ℕ
+receiverDeadline q = q .deadline (q .receiver)
+
+-- "A task has a period P .. and a deadline D from 1 to P." The receiver is a task.
+pub record Valid (q : Queue) : Type 0 where
+  pub receiver-row : q .receiver < q .rows
+  pub deadline-pos : (i : ℕ) → i < q .rows → 1 ≤ q .deadline i
+  pub deadline-fits : (i : ℕ) → i < q .rows → q .deadline i ≤ q .period i
+
+-- Row i is a sender of the queue: its messages are (i, 0), (i, 1), ..
+pub record Sender (q : Queue) (i : ℕ) : Type 0 where
+  pub row : i < q .rows
+  pub on : q .sends i ≡ true
+
+abbrev pub releaseOf : Queue → ℕ → ℕ → ℕ
+releaseOf q i k = released (q .period i) k
+
+abbrev pub deadlineOf : Queue → ℕ → ℕ → ℕ
+deadlineOf q i k = due (q .period i) (q .deadline i) k
+
+-- ## Order and number
+
+-- Of two messages with equal deadlines row i's goes first: "equal deadlines by the senders' row order in the table."
+unfoldable pub precedes : Queue → ℕ → ℕ → Bool
+precedes q i j = ltb i j
+
+-- Definition 1: message (i, k) goes before (j, l).
+abbrev pub Before : Queue → ℕ → ℕ → ℕ → ℕ → Type 0
+Before q i k j l =
+    (deadlineOf q i k < deadlineOf q j l) ⊎ ((deadlineOf q i k ≡ deadlineOf q j l) × (precedes q i j ≡ true))
+
+abbrev pub countOf : Queue → ℕ → ℕ → ℕ
+countOf q t j = count (q .period j) (q .deadline j) t
+
+-- Equation 1, SEJD(q, t): the messages of the queue with deadlines up to t; row j's share, and the sum.
+abbrev pub rowUpTo : Queue → ℕ → ℕ → ℕ
+rowUpTo q t j = only (q .sends j) (countOf q t j)
+
+unfoldable pub upTo : Queue → ℕ → ℕ
+upTo q t = sum (rowUpTo q t) (q .rows)
+
+-- Row j sends and has a deadline at t.
+unfoldable pub dueAt : Queue → ℕ → ℕ → Bool
+dueAt q t j = q .sends j && hasDeadline (q .period j) (q .deadline j) t
+
+-- Followers(q, i, k): the messages with deadline t that go after row i's; row j's share, and the sum.
+abbrev pub rowFollowers : Queue → ℕ → ℕ → ℕ → ℕ
+rowFollowers q t i j = only (dueAt q t j) (only (precedes q i j) 1)
+
+unfoldable pub followers : Queue → ℕ → ℕ → ℕ
+followers q t i = sum (rowFollowers q t i) (q .rows)
+
+-- Equation 2, MSN(q, i, k): the number of message (i, k).
+unfoldable pub number : Queue → ℕ → ℕ → ℕ
+number q i k = upTo q (deadlineOf q i k) - followers q (deadlineOf q i k) i
+
+-- "The number is the count of messages of that queue strictly before, plus one": row j's messages before (i, k) are its jobs below this
+-- bound (law `before-iff`), and the number is one more than the sum of the bounds (law `number-counts`).
+unfoldable pub jobsBefore : Queue → ℕ → ℕ → ℕ → ℕ
+jobsBefore q i k j =
+    cond (precedes q j i) (countOf q (deadlineOf q i k) j) (countOf q (deadlineOf q i k - 1) j)
+
+-- ## Windows
+
+-- "Job m of a receiver with period R has the window of all messages with deadlines in ((m-1)R, mR]": the numbers from `first` to `last`,
+-- none where last < first. "Job 0's window is empty": 1 to 0.
+unfoldable pub last : Queue → ℕ → ℕ
+last q m = upTo q (released (receiverPeriod q) m)
+
+abbrev pub first : Queue → ℕ → ℕ
+first q m = last q (m - 1) + 1
+
+-- The receiver's job whose window has the deadline d: d / R rounded up.
+abbrev pub jobFor : Queue → ℕ → ℕ
+jobFor q d = (d + (receiverPeriod q - 1)) / receiverPeriod q
+
+-- The delivery tick: that job's release.
+abbrev pub deliveredAt : Queue → ℕ → ℕ
+deliveredAt q d = released (receiverPeriod q) (jobFor q d)
+
+-- "It is wanted until the receiver's job deadline, mR + the receiver's D": so long after its delivery
+unfoldable pub wantedFor : Queue → ℕ
+wantedFor q = receiverDeadline q
+
+-- "and outdated from that tick on."
+unfoldable pub outdatedAt : Queue → ℕ → ℕ
+outdatedAt q d = deliveredAt q d + wantedFor q
+
+-- The last deadline whose messages are outdated at tick r, and how many messages that makes (law `outdated-counts`).
+unfoldable pub horizon : Queue → ℕ → ℕ
+horizon q r = released (receiverPeriod q) ((r - wantedFor q) / receiverPeriod q)
+
+unfoldable pub outdated : Queue → ℕ → ℕ
+outdated q r = upTo q (horizon q r)
+
+-- ## How many slots
+
+-- "L is fit if for every n >= 1 the job sending n + L is released no earlier than the tick at which n is outdated."
+-- Here n is the number of (i, k), and (j, l) has n + L.
+abbrev pub Fit : Queue → ℕ → Type 0
+Fit q L =
+    (i k j l : ℕ) → Sender q i → Sender q j → number q j l ≡ number q i k + L →
+    outdatedAt q (deadlineOf q i k) ≤ releaseOf q j l
+
+-- "the greatest common divisor by Euclid's rule", at most n times; the second number falls, so b + 1 times are enough.
+unfoldable pub euclid : ℕ → ℕ → ℕ → ℕ
+euclid zero a b = a
+euclid (suc n) a b = cond (eqb b 0) a (euclid n b (a % b))
+
+unfoldable pub gcd : ℕ → ℕ → ℕ
+gcd a b = euclid (suc b) a b
+
+unfoldable pub lcm : ℕ → ℕ → ℕ
+lcm a b = a * (b / gcd a b)
+
+-- "The hyperperiod of a queue is the least common multiple of the periods of its senders and its receiver":
+-- the receiver's period joined with the senders' among the first n rows, and with all of them.
+unfoldable pub multiple : Queue → ℕ → ℕ
+multiple q zero = receiverPeriod q
+multiple q (suc n) = cond (q .sends n) (lcm (multiple q n) (q .period n)) (multiple q n)
+
+unfoldable pub hyperperiod : Queue → ℕ
+hyperperiod q = multiple q (q .rows)
+
+-- H holds each of these periods a whole number of times.
+pub record CommonMultiple (q : Queue) (H : ℕ) : Type 0 where
+  pub pos : 1 ≤ H
+  pub receiver : H / receiverPeriod q * receiverPeriod q ≡ H
+  pub row : (i : ℕ) → Sender q i → H / q .period i * q .period i ≡ H
+
+-- The messages of H ticks: row j's share, and the sum.
+abbrev pub rowMessages : Queue → ℕ → ℕ → ℕ
+rowMessages q H j = only (q .sends j) (H / q .period j)
+
+unfoldable pub messages : Queue → ℕ → ℕ
+messages q H = sum (rowMessages q H) (q .rows)
+
+-- The slots that message (i, k) asks for: it and all before it that are not outdated when its job is released.
+unfoldable pub need : Queue → ℕ → ℕ → ℕ
+need q i k = number q i k - outdated q (releaseOf q i k)
+
+-- "The plan gives each queue its least fit L": the most that a job of the second hyperperiod asks for (law `slots-iff`).
+unfoldable pub rowSlots : Queue → ℕ → ℕ → ℕ
+rowSlots q H i = most (λ k. need q i (H / q .period i + k)) (H / q .period i)
+
+unfoldable pub slotsOver : Queue → ℕ → ℕ
+slotsOver q H = most (λ i. only (q .sends i) (rowSlots q H i)) (q .rows)
+
+unfoldable pub slots : Queue → ℕ
+slots q = slotsOver q (hyperperiod q)
+
+-- Equation 3: "the sum over senders of floor((2R + greatest sender deadline) / P) + 1."
+unfoldable pub reach : Queue → ℕ
+reach q = 2 * receiverPeriod q + most (λ i. only (q .sends i) (q .deadline i)) (q .rows)
+
+unfoldable pub equation3 : Queue → ℕ
+equation3 q = sum (λ i. only (q .sends i) (reach q / q .period i + 1)) (q .rows)

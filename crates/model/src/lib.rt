@@ -1,0 +1,1 @@
+// The crate is its specs/: the periodic-delayed model and its laws.
