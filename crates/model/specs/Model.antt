@@ -3,13 +3,15 @@
 -- or equation that it writes down. There are definitions only, and all of them compute; the laws stand in the files beside this one.
 -- Ticks, jobs and slots count from 0, message numbers from 1. A message is two numbers: its sender's row i and its job k.
 -- Totals over the rows are `sum f rows` and `most f rows` (the greatest) of common's Totals; `only b n` is n where b is true, else 0.
+-- `firstBad t n` of common's Rows is the first number below n that fails the test t, and n where none does.
 -- Three rules stand alone, because requests will change them: `hasDeadline`, `precedes` and `wantedFor`.
 use Prim.Native.Nat.{ℕ, zero, suc, _+_, _-_, _*_, _/_, _%_, _<_, _≤_}
-use mathlib.Core.Bool.{Bool, true, false, cond, _&&_}
+use mathlib.Core.Bool.{Bool, true, cond, not, _&&_}
 use mathlib.Core.Logic.{_⊎_}
 use mathlib.Core.Path.{_≡_}
 use lib.Dec.{leb, ltb, eqb}
 use Rattle.common.specs.Totals.{only, sum, most}
+use Rattle.common.specs.Rows.{firstBad}
 
 -- ## One task, with period P and deadline D
 
@@ -105,6 +107,24 @@ unfoldable pub jobsBefore : Queue → ℕ → ℕ → ℕ → ℕ
 jobsBefore q i k j =
     cond (precedes q j i) (countOf q (deadlineOf q i k) j) (countOf q (deadlineOf q i k - 1) j)
 
+-- ## The way back from a number
+
+-- The deadline of message n is the least tick with n messages up to it, here looked for up to a last tick,
+unfoldable pub tickOf : Queue → ℕ → ℕ → ℕ
+tickOf q lastTick n = firstBad (λ t. ltb (upTo q t) n) lastTick
+
+-- its sender the row whose message with that deadline has the number n,
+abbrev pub sentBy : Queue → ℕ → ℕ → ℕ → Bool
+sentBy q t n i = dueAt q t i && eqb (upTo q t - followers q t i) n
+
+unfoldable pub senderOf : Queue → ℕ → ℕ → ℕ
+senderOf q lastTick n = firstBad (λ i. not (sentBy q (tickOf q lastTick n) n i)) (q .rows)
+
+-- and its job the one with that deadline.
+unfoldable pub jobOf : Queue → ℕ → ℕ → ℕ
+jobOf q lastTick n =
+    (tickOf q lastTick n - q .deadline (senderOf q lastTick n)) / q .period (senderOf q lastTick n)
+
 -- ## Windows
 
 -- "Job m of a receiver with period R has the window of all messages with deadlines in ((m-1)R, mR]": the numbers from `first` to `last`,
@@ -119,17 +139,16 @@ first q m = last q (m - 1) + 1
 abbrev pub jobFor : Queue → ℕ → ℕ
 jobFor q d = (d + (receiverPeriod q - 1)) / receiverPeriod q
 
--- The delivery tick: that job's release.
-abbrev pub deliveredAt : Queue → ℕ → ℕ
-deliveredAt q d = released (receiverPeriod q) (jobFor q d)
-
--- "It is wanted until the receiver's job deadline, mR + the receiver's D": so long after its delivery
+-- "It is wanted until the receiver's job deadline, mR + the receiver's D": so long after the release of the job that is given it,
 unfoldable pub wantedFor : Queue → ℕ
 wantedFor q = receiverDeadline q
 
--- "and outdated from that tick on."
+abbrev pub wantedUntil : Queue → ℕ → ℕ
+wantedUntil q m = released (receiverPeriod q) m + wantedFor q
+
+-- "and outdated from that tick on": a message with deadline d.
 unfoldable pub outdatedAt : Queue → ℕ → ℕ
-outdatedAt q d = deliveredAt q d + wantedFor q
+outdatedAt q d = wantedUntil q (jobFor q d)
 
 -- The last deadline whose messages are outdated at tick r, and how many messages that makes (law `outdated-counts`).
 unfoldable pub horizon : Queue → ℕ → ℕ
@@ -146,6 +165,13 @@ abbrev pub Fit : Queue → ℕ → Type 0
 Fit q L =
     (i k j l : ℕ) → Sender q i → Sender q j → number q j l ≡ number q i k + L →
     outdatedAt q (deadlineOf q i k) ≤ releaseOf q j l
+
+-- Equation 3: "the sum over senders of floor((2R + greatest sender deadline) / P) + 1."
+unfoldable pub reach : Queue → ℕ
+reach q = 2 * receiverPeriod q + most (λ i. only (q .sends i) (q .deadline i)) (q .rows)
+
+unfoldable pub equation3 : Queue → ℕ
+equation3 q = sum (λ i. only (q .sends i) (reach q / q .period i + 1)) (q .rows)
 
 -- "the greatest common divisor by Euclid's rule", at most n times; the second number falls, so b + 1 times are enough.
 unfoldable pub euclid : ℕ → ℕ → ℕ → ℕ
@@ -193,10 +219,3 @@ slotsOver q H = most (λ i. only (q .sends i) (rowSlots q H i)) (q .rows)
 
 unfoldable pub slots : Queue → ℕ
 slots q = slotsOver q (hyperperiod q)
-
--- Equation 3: "the sum over senders of floor((2R + greatest sender deadline) / P) + 1."
-unfoldable pub reach : Queue → ℕ
-reach q = 2 * receiverPeriod q + most (λ i. only (q .sends i) (q .deadline i)) (q .rows)
-
-unfoldable pub equation3 : Queue → ℕ
-equation3 q = sum (λ i. only (q .sends i) (reach q / q .period i + 1)) (q .rows)

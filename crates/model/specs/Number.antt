@@ -112,7 +112,7 @@ module _ (q : Queue) (v : Valid q) where
     number-rank =
         omega (arith, number-counts, sum-ext _ _ (q .rows) row-earlier ∙ sum-add _ _ (q .rows))
 
-    dueAt-own : dueAt q (deadlineOf q i k) i ≡ true
+    pub dueAt-own : dueAt q (deadlineOf q i k) i ≡ true
     unfolding dueAt
     dueAt-own = rw (s .on, has-own (q .period i) (q .deadline i) k (period-pos q v i (s .row)) (v .deadline-pos i (s .row)))
 
