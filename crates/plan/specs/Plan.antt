@@ -1,10 +1,10 @@
 -- A plan as the model sees it: queue q of a plan, its size and its place.
-use Prim.Native.Nat.{ℕ, _+_, _*_}
+use Prim.Native.Nat.{ℕ, _+_, _*_, _<_, _≤_}
 use mathlib.Core.Bool.{Bool, false}
 use lib.ListN.{getD, replicate}
 use Rattle.common.specs.Totals.{sum}
-use Rattle.model.specs.Model.{Queue}
-use Rattle.plan.specs.Limits.{taskLimit, queueLimit, cellLimit}
+use Rattle.model.specs.Model.{Queue, Valid}
+use Rattle.plan.specs.Limits.{taskLimit, queueLimit, cellLimit, longestPeriod}
 use Rattle.plan.specs.declared.Plan.{Plan}
 
 abbrev pub zeros : Plan
@@ -41,3 +41,11 @@ placeAt p q = getD (p .place) q 0
 -- the slots of all queues together
 abbrev pub slotsOf : Plan → ℕ
 slotsOf p = sum (sizeAt p) (p .queues)
+
+-- Queue q can be reckoned with: what rules 1 to 3 leave of it. Inner functions ask for this and no more, so that planning, which has
+-- no sizes yet, may call them too.
+pub record Usable (p : Plan) (q : ℕ) : Type 0 where
+  pub tasks-fit : p .tasks ≤ taskLimit
+  pub queue-fits : q < queueLimit
+  pub periods-fit : (i : ℕ) → i < p .tasks → getD (p .period) i 0 ≤ longestPeriod
+  pub valid : Valid (queueAt p q)
