@@ -1,4 +1,4 @@
--- Rules 1, 2, 3 and 7 of document 01's table, each as the test that a table or a plan has to pass.
+-- Rules 1, 2, 3, 7 and 9 of document 01's table, each as the test that a table or a plan has to pass.
 -- Rules 1 to 3 are stated over counts, columns and connections, so that planning's table and a plan are tested by the same words.
 use Prim.Native.Nat.{ℕ}
 use mathlib.Core.Bool.{Bool, not, _&&_, _||_}
@@ -37,3 +37,7 @@ placeGoodAt p q = (leb 1 (sizeAt p q) && leb (sizeAt p q) mostSlots) && eqb (pla
 unfoldable pub soundPlan : Plan → Bool
 soundPlan p =
     (countsGood (p .tasks) (p .queues) && (every (taskGoodAt p) (p .tasks) && every (queueGoodAt p) (p .queues))) && (every (placeGoodAt p) (p .queues) && leb (slotsOf p) mostSlots)
+
+-- not 9: "no such queue or task, or the task doesn't send there"
+abbrev pub connected : Plan → ℕ → ℕ → Bool
+connected p q i = ltb q (p .queues) && (ltb i (p .tasks) && sendsInto p q i)
