@@ -12,7 +12,7 @@ module _ (q : Queue) (v : Valid q) where
   -- all that is asked of `wantedFor`
   pub wanted-fits : wantedFor q ≤ receiverPeriod q
   unfolding wantedFor
-  wanted-fits = v .deadline-fits (q .receiver) (v .receiver-row)
+  wanted-fits = omega (arith, v .deadline-fits (q .receiver) (v .receiver-row))
 
   receiver-period-pos : 1 ≤ receiverPeriod q
   receiver-period-pos = omega (arith, v .deadline-pos (q .receiver) (v .receiver-row), v .deadline-fits (q .receiver) (v .receiver-row))
