@@ -51,6 +51,10 @@ pub every-fails : (t : ℕ → Bool) (i n : ℕ) → i < n → t i ≡ false →
 every-fails t i n l e =
     ⊎-elim (λ (h : every t n ≡ true). absurd (clash (every-at t n i h l) e)) (λ h. h) (true-or-false (every t n))
 
+-- where each row's test says a fact of the row, the test of all says it of all
+pub every-iff : {A : ℕ → Type 0} (t : ℕ → Bool) (n : ℕ) → ((i : ℕ) → (t i ≡ true) ↔ A i) → (every t n ≡ true) ↔ ((i : ℕ) → i < n → A i)
+every-iff t n f = (λ h i l. f i .0 (every-at t n i h l), λ a. every-of t n (λ i l. f i .1 (a i l)))
+
 -- ## The first bad row
 
 pub firstBad-none : (t : ℕ → Bool) → firstBad t 0 ≡ 0
@@ -120,6 +124,13 @@ firstBad-only t n b f =
     (lt-or-le b (firstBad t n)))
     (lt-or-le (firstBad t n) b))
 
+-- the first bad row tells whether every row passes
+pub every-breaks : (t : ℕ → Bool) (n : ℕ) → firstBad t n < n → every t n ≡ false
+every-breaks t n l = every-fails t (firstBad t n) n l (firstBad-is t n .bad l)
+
+pub every-passes : (t : ℕ → Bool) (n : ℕ) → n ≤ firstBad t n → every t n ≡ true
+every-passes t n g = every-firstBad t n .1 (omega (arith, firstBad-is t n .within))
+
 -- ## Some row
 
 -- a passing row is shown, or all rows fail
@@ -137,3 +148,23 @@ some-of t n i l h =
     ⊎-elim (λ (b : firstBad (λ i. not (t i)) n < n). lt-ltb _ _ b)
     (λ (b : n ≤ firstBad (λ i. not (t i)) n). absurd (clash h (not-true _ (f .before i (omega arith)))))
     (lt-or-le (firstBad (λ i. not (t i)) n) n))
+
+pub some-iff : (t : ℕ → Bool) (n : ℕ) → (some t n ≡ true) ↔ ((i : ℕ) × (i < n) × (t i ≡ true))
+some-iff t n = (some-at t n, λ x. some-of t n (x .0) (x .1) (x .2))
+
+-- ## Tests that agree
+
+pub every-same : (t u : ℕ → Bool) (n : ℕ) → ((i : ℕ) → i < n → t i ≡ u i) → every t n ≡ every u n
+unfolding every
+every-same t u zero h = refl
+every-same t u (suc n) h = rw (every-same t u n (λ i l. h i (omega arith)), h n (omega arith))
+
+pub firstBad-same : (t u : ℕ → Bool) (n : ℕ) → ((i : ℕ) → i < n → t i ≡ u i) → firstBad t n ≡ firstBad u n
+firstBad-same t u n h =
+    having (firstBad-is u n)
+    (λ f.
+    firstBad-only t n (firstBad u n) (record {
+      within = f .within;
+      before = λ i l. h i (omega (arith, f .within)) ∙ f .before i l;
+      bad = λ l. h (firstBad u n) l ∙ f .bad l;
+    }))

@@ -53,7 +53,11 @@ le-by (suc a) b h = h a (omega arith)
 pub eq-by : (a b : ℕ) → ((k : ℕ) → k < a → k < b) → ((k : ℕ) → k < b → k < a) → a ≡ b
 eq-by a b h g = omega (arith, le-by a b h, le-by b a g)
 
--- the form that a program's loop takes: one row more
+-- the form that a program's loop takes: no row, and one row more
+pub sum-none : (f : ℕ → ℕ) → sum f 0 ≡ 0
+unfolding sum
+sum-none f = refl
+
 pub sum-next : (f : ℕ → ℕ) (n : ℕ) → sum f (n + 1) ≡ sum f n + f n
 unfolding sum
 sum-next f n = rw add-one
@@ -78,6 +82,13 @@ sum-at f (suc n) m b =
     ⊎-elim (λ (l : m < n). omega (arith, sum-at f n m l))
     (λ (l : n ≤ m). let e : n ≡ m = omega arith in subst (λ (x : ℕ). f x ≤ sum f n + f n) e (omega arith))
     (lt-or-le m n)
+
+-- more rows, no smaller a sum
+pub sum-up : (f : ℕ → ℕ) (m n : ℕ) → m ≤ n → sum f m ≤ sum f n
+unfolding sum
+sum-up f m zero h = let e : m ≡ 0 = omega arith in rw e (omega arith)
+sum-up f m (suc n) h =
+    ⊎-elim (λ (l : n < m). let e : m ≡ suc n = omega arith in rw e (omega arith)) (λ (g : m ≤ n). omega (arith, sum-up f m n g)) (lt-or-le n m)
 
 pub sum-bound : (f : ℕ → ℕ) (n b : ℕ) → ((i : ℕ) → i < n → f i ≤ b) → sum f n ≤ n * b
 unfolding sum

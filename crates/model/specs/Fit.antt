@@ -8,7 +8,7 @@ use Rattle.common.specs.Tests.{lt-or-le, having}
 use Rattle.model.specs.Model.{Queue, Valid, Sender, Fit, upTo, releaseOf, deadlineOf, number, outdatedAt, horizon, outdated}
 use Rattle.model.specs.Order.{deadline-positive}
 use Rattle.model.specs.Number.{number-iff, number-onto}
-use Rattle.model.specs.Outdating.{outdated-iff, horizon-back}
+use Rattle.model.specs.Outdating.{outdated-iff, outdated-after, horizon-back}
 
 -- each message (i, k) finds its slot free: all but L of the messages up to it are outdated when its job is released
 abbrev pub Free : Queue → ℕ → ℕ → ℕ → Type 0
@@ -23,6 +23,11 @@ module _ (q : Queue) (v : Valid q) where
       outdated-iff q v (deadlineOf q i k) r (deadline-positive q v i k s) in
       let n : (number q i k ≤ upTo q (horizon q r)) ↔ (deadlineOf q i k ≤ horizon q r) = number-iff q v i k s (horizon q r) in
       (λ h. o .1 (n .0 h), λ h. n .1 (o .0 h))
+
+  -- a message is not among those that are outdated when its job is released
+  pub outdated-less : (i k : ℕ) → Sender q i → outdated q (releaseOf q i k) < number q i k
+  outdated-less i k s =
+      lt-of-not-le (λ g. not-le-of-lt (v .deadline-pos i (s .row)) (omega (arith, outdated-counts i k (releaseOf q i k) s .0 g, outdated-after q v (deadlineOf q i k))))
 
   -- the test that a program can make of one message after the other
   pub fit-iff : (L : ℕ) → Fit q L ↔ ((i k : ℕ) → Sender q i → Free q L i k)
@@ -46,10 +51,6 @@ module _ (q : Queue) (v : Valid q) where
   pub fit-above : (L M : ℕ) → L ≤ M → Fit q L → Fit q M
   fit-above L M h f = fit-iff M .1 (λ i k s. omega (arith, fit-iff L .0 f i k s))
 
-  -- no message is outdated before its job is released, so at least one slot is needed
+  -- so at least one slot is needed
   pub fit-pos : (L i : ℕ) → Sender q i → Fit q L → 1 ≤ L
-  unfolding outdated
-  fit-pos L i s f =
-      let late : upTo q (horizon q 0) < number q i 0 =
-      lt-of-not-le (λ g. not-le-of-lt (v .deadline-pos i (s .row)) (omega (arith, number-iff q v i 0 s (horizon q 0) .0 g, horizon-back q v 0))) in
-      omega (arith, rw (zero-mul (q .period i)) at (fit-iff L .0 f i 0 s))
+  fit-pos L i s f = omega (arith, outdated-less i 0 s, fit-iff L .0 f i 0 s)

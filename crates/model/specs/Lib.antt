@@ -3,6 +3,7 @@ pub mod Count
 pub mod Ties
 pub mod Order
 pub mod Number
+pub mod WayBack
 pub mod Outdating
 pub mod Window
 pub mod Fit

@@ -28,6 +28,11 @@ module _ (q : Queue) (v : Valid q) where
       (omega (arith, receiver-period-pos, div-mul-le-self (d + (receiverPeriod q - 1)) (receiverPeriod q))) in
       omega arith
 
+  -- no message is outdated before its deadline
+  pub outdated-after : (d : ℕ) → d ≤ outdatedAt q d
+  unfolding outdatedAt
+  outdated-after d = omega (arith, job-from d)
+
   -- outdated at tick r are exactly the messages with deadline at or before horizon r
   pub outdated-iff : (d r : ℕ) → 1 ≤ d → (outdatedAt q d ≤ r) ↔ (d ≤ horizon q r)
   unfolding outdatedAt horizon

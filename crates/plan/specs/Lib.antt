@@ -1,4 +1,10 @@
 pub mod Limits
 pub mod Refusals
 pub mod Plan
+pub mod Square
 pub mod Rules
+pub mod Facts
+pub mod Connections
+pub mod Sound
+pub mod Example
+pub mod Verdicts

@@ -1,0 +1,6 @@
+pub mod Bounds
+pub mod Origin
+pub mod Lookups
+pub mod Says
+pub mod Unique
+pub mod Inverse

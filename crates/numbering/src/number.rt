@@ -1,0 +1,47 @@
+// Equation 2, and the numbers that bound a window. Callers have tested the plan (`Usable`) and stay within the last tick.
+use crate::count::followers;
+use crate::count::up_to;
+use calendar::Job;
+use calendar::Number;
+use calendar::deadline_of;
+use calendar::release_of;
+use plan::Plan;
+ghost use mathlib.Core.Path.{_≡_};
+ghost use Prim.Native.Nat.{_≤_};
+ghost use Rattle.model.specs.Model.{Sender, deadlineOf, released, receiverPeriod, number, first, last};
+ghost use Rattle.calendar.specs.Calendar.{message};
+ghost use Rattle.plan.specs.Limits.{lastTick};
+ghost use Rattle.plan.specs.Plan.{queueAt, Usable};
+
+// The number of the message that a task's job sends.
+pub fn number_at(plan: Plan, queue: usize, task: usize, job: Job) -> Number
+    requires { ⌜ Usable plan queue × Sender (queueAt plan queue) task × (deadlineOf (queueAt plan queue) task (job .0) ≤ lastTick) ⌝ }
+    ensures { λ r. ⌜ r ≡ message (number (queueAt plan queue) task (job .0)) ⌝ }
+{
+    let at = deadline_of(plan.period[task], plan.deadline[task], job);
+    let all = up_to(plan, queue, at);
+    let after = followers(plan, queue, at, task);
+    Number(all - after)
+}
+
+// The last number of the window of a receiver's job.
+pub fn last_number(plan: Plan, queue: usize, job: Job) -> Number
+    requires { ⌜ Usable plan queue × (released (receiverPeriod (queueAt plan queue)) (job .0) ≤ lastTick) ⌝ }
+    ensures { λ r. ⌜ r ≡ message (last (queueAt plan queue) (job .0)) ⌝ }
+{
+    let receiver = plan.receiver[queue];
+    let at = release_of(plan.period[receiver], job);
+    Number(up_to(plan, queue, at))
+}
+
+// The first number of that window: one more than the last of the job before.
+pub fn first_number(plan: Plan, queue: usize, job: Job) -> Number
+    requires { ⌜ Usable plan queue × (released (receiverPeriod (queueAt plan queue)) (job .0) ≤ lastTick) ⌝ }
+    ensures { λ r. ⌜ r ≡ message (first (queueAt plan queue) (job .0)) ⌝ }
+{
+    if job.0 == 0 {
+        return Number(1);
+    }
+    let before = last_number(plan, queue, Job(job.0 - 1));
+    Number(before.0 + 1)
+}

@@ -1,0 +1,55 @@
+// What a lookup can reach: a task that sends into the queue (rule 9), and a job whose tick is not past the last one (rule 11).
+use calendar::Job;
+use calendar::deadline_of;
+use plan::Plan;
+ghost use mathlib.Core.Path.{_≡_};
+ghost use Prim.Native.Nat.{_<_, _≤_};
+ghost use lib.Dec.{ltb};
+ghost use Rattle.model.specs.Model.{due, released, receiverPeriod, deadlineOf};
+ghost use Rattle.plan.specs.Limits.{taskLimit, queueLimit, longestPeriod, lastTick};
+ghost use Rattle.plan.specs.Plan.{queueAt, Usable};
+ghost use Rattle.plan.specs.Rules.{connected};
+
+// Whether the task sends into the queue, and both are there.
+pub fn connected(plan: Plan, queue: usize, task: usize) -> bool
+    requires { ⌜ (plan .tasks ≤ taskLimit) × (plan .queues ≤ queueLimit) ⌝ }
+    ensures { λ r. ⌜ r ≡ connected plan queue task ⌝ }
+{
+    if plan.queues <= queue {
+        return false;
+    }
+    if plan.tasks <= task {
+        return false;
+    }
+    plan.sends[queue * Plan::TASKS + task]
+}
+
+// Whether the tick that lies `after` ticks behind a job's release is past the last tick. Jobs past it are told apart first, since a
+// period is at least 1: what is reckoned then fits.
+fn past_last(period: u64, after: u64, job: Job) -> bool
+    requires { ⌜ (1 ≤ period) × (period ≤ longestPeriod) × (after ≤ longestPeriod) ⌝ }
+    ensures { λ r. ⌜ r ≡ ltb lastTick (due period after (job .0)) ⌝ }
+{
+    if Plan::LAST_TICK < job.0 {
+        return true;
+    }
+    let at = deadline_of(period, after, job);
+    Plan::LAST_TICK < at.0
+}
+
+// Whether the deadline of a task's job is past the last tick.
+pub fn deadline_past(plan: Plan, queue: usize, task: usize, job: Job) -> bool
+    requires { ⌜ Usable plan queue × (task < plan .tasks) ⌝ }
+    ensures { λ r. ⌜ r ≡ ltb lastTick (deadlineOf (queueAt plan queue) task (job .0)) ⌝ }
+{
+    past_last(plan.period[task], plan.deadline[task], job)
+}
+
+// Whether the release of a job of the queue's receiver is past the last tick.
+pub fn release_past(plan: Plan, queue: usize, job: Job) -> bool
+    requires { ⌜ Usable plan queue ⌝ }
+    ensures { λ r. ⌜ r ≡ ltb lastTick (released (receiverPeriod (queueAt plan queue)) (job .0)) ⌝ }
+{
+    let receiver = plan.receiver[queue];
+    past_last(plan.period[receiver], 0, job)
+}

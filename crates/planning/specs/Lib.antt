@@ -1,0 +1,5 @@
+pub mod Table
+pub mod Planning
+pub mod Bounds
+pub mod TableLaws
+pub mod Accepted

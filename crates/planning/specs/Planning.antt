@@ -1,0 +1,94 @@
+-- What planning answers and the plan that it makes, on every input: rules 1 to 6 in document 01's order, the least sizes, and the
+-- places as running sums.
+use Prim.Native.Nat.{ℕ}
+use mathlib.Core.Bool.{Bool, not, _&&_}
+use mathlib.Core.List.{List, [], _∷_}
+use lib.Dec.{leb, ltb}
+use lib.ListN.{getD}
+use Rattle.common.specs.Totals.{only, sum}
+use Rattle.common.specs.Rows.{firstBad}
+use Rattle.common.specs.Table.{table}
+use Rattle.model.specs.Model.{hyperperiod, messages, slots}
+use Rattle.plan.specs.Limits.{queueLimit, longestHyperperiod, mostMessages, mostSlots}
+use Rattle.plan.specs.Plan.{zeros, queueAt}
+use Rattle.plan.specs.Rules.{countsGood, badTask, badQueue}
+use Rattle.plan.specs.Refusals.{Line, _gives_, named, unnamed, judged}
+use Rattle.plan.specs.declared.Plan.{Plan}
+use Rattle.plan.specs.declared.refusal.Refusal.{Refusal}
+use Rattle.plan.specs.declared.refusal.Rule.the-variants.{TaskOrQueueCount, PeriodOrDeadline, ReceiverOrSender, HyperperiodTooLong, TooManyMessages, TooManySlots}
+use Rattle.planning.specs.Table.{tabled}
+use Rattle.planning.specs.declared.Planned.{Planned}
+use Rattle.planning.specs.declared.Answer.{Answer}
+
+-- of a table t whose rows have passed rules 1 to 3:
+-- not 4: "hyperperiod over the limit", of one queue
+abbrev pub cycleShort : Plan → ℕ → Bool
+cycleShort t q = leb (hyperperiod (queueAt t q)) longestHyperperiod
+
+-- not 5: "too many messages in a hyperperiod", of one queue
+abbrev pub messagesFew : Plan → ℕ → Bool
+messagesFew t q = leb (messages (queueAt t q) (hyperperiod (queueAt t q))) mostMessages
+
+-- "then 4 before 5 queue by queue": the first queue that breaks one of them, and the count where none does
+unfoldable pub longQueue : Plan → ℕ
+longQueue t = firstBad (λ q. cycleShort t q && messagesFew t q) (t .queues)
+
+-- "The plan gives each queue its least fit L."
+abbrev pub leastSize : Plan → ℕ → ℕ
+leastSize t q = slots (queueAt t q)
+
+abbrev pub leastSizes : Plan → List ℕ
+leastSizes t = table (λ q. only (ltb q (t .queues)) (leastSize t q)) queueLimit
+
+-- "Queues lie in memory in table order, without space between."
+abbrev pub runningPlaces : ℕ → List ℕ → List ℕ
+runningPlaces queues sizes = table (λ q. only (ltb q queues) (sum (λ r. getD sizes r 0) q)) queueLimit
+
+unfoldable pub sized : Plan → Plan
+sized t = record {
+  tasks = t .tasks;
+  queues = t .queues;
+  period = t .period;
+  deadline = t .deadline;
+  receiver = t .receiver;
+  sends = t .sends;
+  size = leastSizes t;
+  place = runningPlaces (t .queues) (leastSizes t);
+}
+
+-- "A refused planning gives the plan of all zeros"
+abbrev pub refusedPlan : Refusal → Planned
+refusedPlan r = record { answer = Answer.Refused r; plan = zeros }
+
+-- "Planning tests 1; 2 by rows; 3 by queues; then 4 before 5 queue by queue; then 6.": the last three, of a table that has passed the others
+abbrev pub slotLine : Plan → Line
+slotLine t = ltb mostSlots (sum (leastSize t) (t .queues)) gives unnamed TooManySlots
+
+abbrev pub tableLines : Plan → List Line
+tableLines t =
+    (ltb (longQueue t) (t .queues) && not (cycleShort t (longQueue t))) gives named HyperperiodTooLong (longQueue t)
+    ∷ ltb (longQueue t) (t .queues) gives named TooManyMessages (longQueue t)
+    ∷ slotLine t
+    ∷ []
+
+abbrev pub accepted : Plan → Planned
+accepted t = record { answer = Answer.Accepted; plan = sized t }
+
+unfoldable pub slotsJudged : Plan → Planned
+slotsJudged t = judged (slotLine t ∷ []) refusedPlan (accepted t)
+
+unfoldable pub tableJudged : Plan → Planned
+tableJudged t = judged (tableLines t) refusedPlan (accepted t)
+
+-- the first three, and all of them
+abbrev pub firstLines : ℕ → ℕ → List ℕ → List ℕ → List ℕ → List (List Bool) → List Line
+firstLines tasks queues period deadline receiver square =
+    not (countsGood tasks queues) gives unnamed TaskOrQueueCount
+    ∷ ltb (badTask period deadline tasks) tasks gives named PeriodOrDeadline (badTask period deadline tasks)
+    ∷ ltb (badQueue square receiver tasks queues) queues gives named ReceiverOrSender (badQueue square receiver tasks queues)
+    ∷ []
+
+unfoldable pub planOf : ℕ → ℕ → List ℕ → List ℕ → List ℕ → List (List Bool) → Planned
+planOf tasks queues period deadline receiver square =
+    judged (firstLines tasks queues period deadline receiver square) refusedPlan
+    (tableJudged (tabled tasks queues period deadline receiver square))

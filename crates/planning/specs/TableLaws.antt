@@ -1,0 +1,71 @@
+-- What the table keeps of its rows: counted rows as they were handed in. So rules 1 to 3, tested on what was handed in, hold of the table.
+use Prim.Native.Nat.{ℕ, _+_, _*_, _/_, _%_, _<_, _≤_}
+use native.Mathlib.Omega.{arith}
+use mathlib.Core.Bool.{Bool, true, false, _&&_}
+use mathlib.Core.List.{List}
+use mathlib.Core.Logic.{⊎-elim}
+use mathlib.Core.Path.{_≡_, sym, _∙_}
+use borrow.Author.Tests.{lt-ltb, le-ltb, ltb-true}
+use lib.Dec.{ltb}
+use lib.ListN.{getD, List·getD-eq-default}
+use Rattle.common.specs.Tests.{lt-or-le}
+use Rattle.common.specs.Totals.{only, sum, only-most, sum-ext}
+use Rattle.common.specs.Table.{table, table-at, table-length}
+use Rattle.common.specs.Rows.{firstBad-is, firstBad-same}
+use Rattle.plan.specs.Limits.{taskLimit, queueLimit, cellLimit}
+use Rattle.plan.specs.Square.{entry}
+use Rattle.plan.specs.Rules.{countsGood, taskGood, queueGood, badTask, badQueue}
+use Rattle.plan.specs.Facts.{counts-iff}
+use Rattle.plan.specs.Sound.{Checked, checked-of, checked-usable}
+use Rattle.plan.specs.declared.Plan.{Plan}
+use Rattle.planning.specs.Table.{kept, counted, flatEntry, flat, tabled}
+use Rattle.planning.specs.Planning.{cycleShort, messagesFew, longQueue, leastSize, leastSizes}
+use Rattle.planning.specs.Bounds.{largestSize, slots-small}
+
+pub counted-at : (limit n : ℕ) (values : List ℕ) (i : ℕ) → n ≤ limit → i < n → getD (counted limit n values) i 0 ≡ getD values i 0
+counted-at limit n values i f l = table-at (kept n values) limit i 0 (omega arith) ∙ rw (lt-ltb i n l)
+
+-- "zeros in a plan we make"
+pub counted-beyond : (limit n : ℕ) (values : List ℕ) (i : ℕ) → n ≤ i → getD (counted limit n values) i 0 ≡ 0
+counted-beyond limit n values i h =
+    ⊎-elim (λ (l : i < limit). table-at (kept n values) limit i 0 l ∙ rw (le-ltb i n h))
+    (λ (l : limit ≤ i). List·getD-eq-default (counted limit n values) 0 (omega (arith, table-length (kept n values) limit)))
+    (lt-or-le i limit)
+
+pub flat-at : (queues : ℕ) (square : List (List Bool)) (q i : ℕ) → queues ≤ queueLimit → q < queues → i < taskLimit →
+    getD (flat queues square) (q * taskLimit + i) false ≡ entry square q i
+flat-at queues square q i f l b =
+    let row : (q * taskLimit + i) / taskLimit ≡ q = omega arith in
+    let column : (q * taskLimit + i) % taskLimit ≡ i = omega arith in
+    table-at (flatEntry queues square) cellLimit (q * taskLimit + i) false (omega arith) ∙ rw (row, column, lt-ltb q queues l)
+
+module _ (tasks queues : ℕ) (period deadline receiver : List ℕ) (square : List (List Bool)) where
+  pub table-checked : countsGood tasks queues ≡ true → badTask period deadline tasks ≡ tasks → badQueue square receiver tasks queues ≡ queues →
+      Checked (tabled tasks queues period deadline receiver square)
+  unfolding tabled
+  table-checked c t u =
+      let counts = counts-iff tasks queues .0 c in
+      checked-of (tabled tasks queues period deadline receiver square) square
+      (λ q i l b. sym (flat-at queues square q i (counts .1 .1) l b))
+      c
+      (firstBad-same _ (λ i. taskGood (getD period i 0) (getD deadline i 0)) tasks
+      (λ i l. rw (counted-at taskLimit tasks period i (counts .0 .1) l, counted-at taskLimit tasks deadline i (counts .0 .1) l)) ∙ t)
+      (firstBad-same _ (λ q. queueGood tasks (getD receiver q 0) (entry square q)) queues
+      (λ q l. rw (counted-at queueLimit queues receiver q (counts .1 .1) l)) ∙ u)
+
+pub long-within : (t : Plan) → longQueue t ≤ t .queues
+unfolding longQueue
+long-within t = firstBad-is (λ q. cycleShort t q && messagesFew t q) (t .queues) .within
+
+module _ {t : Plan} (c : Checked t) where
+  pub size-at : (q : ℕ) → q < t .queues → getD (leastSizes t) q 0 ≡ leastSize t q
+  size-at q l =
+      table-at (λ q. only (ltb q (t .queues)) (leastSize t q)) queueLimit q 0 (omega (arith, c .queues-fit)) ∙ rw (lt-ltb q (t .queues) l)
+
+  pub sizes-small : (q : ℕ) → q < queueLimit → getD (leastSizes t) q 0 ≤ largestSize
+  sizes-small q l =
+      rw (table-at (λ q. only (ltb q (t .queues)) (leastSize t q)) queueLimit q 0 l)
+      (only-most (ltb q (t .queues)) _ largestSize (λ h. slots-small (checked-usable c q (ltb-true q (t .queues) h))))
+
+  pub total-is : sum (λ q. getD (leastSizes t) q 0) (t .queues) ≡ sum (leastSize t) (t .queues)
+  total-is = sum-ext _ _ (t .queues) size-at

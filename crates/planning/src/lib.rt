@@ -1,0 +1,81 @@
+// Planning: from a task table to a plan with the least number of slots, or to the first refusal of rules 1 to 6.
+pub mod cycle; // cycle.rt: a queue's hyperperiod and the messages in it
+pub mod places; // places.rt: the sizes and places of all queues
+pub mod sizes; // sizes.rt: the least number of slots of one queue
+pub mod table; // table.rt: the table as a plan without sizes
+
+use cycle::cycle_short;
+use places::first_long;
+use places::sized;
+use plan::Plan;
+use plan::refusal::Refusal;
+use plan::refusal::Rule;
+use plan::rules::counts_good;
+use plan::rules::first_bad_queue;
+use plan::rules::first_bad_task;
+use table::tabled;
+ghost use mathlib.Core.Path.{_≡_};
+ghost use Rattle.plan.specs.Refusals.{named};
+ghost use Rattle.plan.specs.Sound.{Checked};
+ghost use Rattle.planning.specs.Planning.{planOf, refusedPlan, tableJudged};
+
+pub enum Answer {
+    Accepted,
+    Refused(Refusal),
+}
+
+// The answer, and the plan: that of all zeros where the table is refused.
+pub struct Planned {
+    pub answer: Answer,
+    pub plan: Plan,
+}
+
+fn refused(rule: Rule, row: usize) -> Planned
+    ensures { λ r. ⌜ r ≡ refusedPlan (named rule row) ⌝ }
+{
+    Planned {
+        answer: Answer::Refused(Refusal { rule, row }),
+        plan: Plan::zeros(),
+    }
+}
+
+// Rules 4 to 6, of a table that has passed rules 1 to 3.
+fn judged_table(table: Plan) -> Planned
+    requires { ⌜ Checked table ⌝ }
+    ensures { λ r. ⌜ r ≡ tableJudged table ⌝ }
+{
+    let long = first_long(table);
+    if long < table.queues {
+        if !cycle_short(table, long) {
+            return refused(Rule::HyperperiodTooLong, long);
+        }
+        return refused(Rule::TooManyMessages, long);
+    }
+    sized(table)
+}
+
+// The plan of a table: so many tasks, each with a period and a deadline, and so many queues, each with a receiver and a row of the
+// square that says which tasks send into it.
+pub fn make_plan(
+    tasks: usize,
+    queues: usize,
+    period: [u64; Plan::TASKS],
+    deadline: [u64; Plan::TASKS],
+    receiver: [usize; Plan::QUEUES],
+    square: [[bool; Plan::TASKS]; Plan::QUEUES],
+) -> Planned
+    ensures { λ r. ⌜ r ≡ planOf tasks queues period deadline receiver square ⌝ }
+{
+    if !counts_good(tasks, queues) {
+        return refused(Rule::TaskOrQueueCount, 0);
+    }
+    let task = first_bad_task(period, deadline, tasks);
+    if task < tasks {
+        return refused(Rule::PeriodOrDeadline, task);
+    }
+    let queue = first_bad_queue(square, receiver, tasks, queues);
+    if queue < queues {
+        return refused(Rule::ReceiverOrSender, queue);
+    }
+    judged_table(tabled(tasks, queues, period, deadline, receiver, square))
+}

@@ -1,0 +1,110 @@
+// The sizes and places of all queues of a table that has passed rules 1 to 3.
+use crate::Answer;
+use crate::Planned;
+use crate::cycle::cycle_good;
+use crate::cycle::hyperperiod_of;
+use crate::refused;
+use crate::sizes::slots_over;
+use calendar::Multiple;
+use plan::Plan;
+use plan::refusal::Rule;
+ghost use mathlib.Core.Path.{_≡_};
+ghost use mathlib.Core.Bool.{true};
+ghost use Prim.Native.Nat.{ℕ, _<_, _≤_};
+ghost use lib.Dec.{ltb};
+ghost use lib.ListN.{getD};
+ghost use Rattle.common.specs.Totals.{only, sum};
+ghost use Rattle.plan.specs.Limits.{queueLimit};
+ghost use Rattle.plan.specs.Sound.{Checked};
+ghost use Rattle.planning.specs.Planning.{cycleShort, longQueue, leastSize, leastSizes, runningPlaces, slotsJudged};
+ghost use Rattle.planning.specs.Bounds.{largestSize};
+
+// Rules 4 and 5: the first queue that breaks one of them, and the count where none does.
+pub fn first_long(table: Plan) -> usize
+    requires { ⌜ Checked table ⌝ }
+    ensures { λ r. ⌜ r ≡ longQueue table ⌝ }
+{
+    for q in 0..table.queues {
+        if !cycle_good(table, q) {
+            return q;
+        }
+    }
+    table.queues
+}
+
+// One queue's least size, 0 for a queue beyond the count.
+fn size_of(table: Plan, queue: usize) -> u64
+    requires { ⌜ Checked table × (longQueue table ≡ table .queues) ⌝ }
+    ensures { λ r. ⌜ r ≡ only (ltb queue (table .queues)) (leastSize table queue) ⌝ }
+{
+    if table.queues <= queue {
+        return 0;
+    }
+    let cycle = hyperperiod_of(table, queue);
+    let Multiple::Within(ticks) = cycle else {
+        return 0;
+    };
+    slots_over(table, queue, ticks)
+}
+
+fn sizes_of(table: Plan) -> [usize; Plan::QUEUES]
+    requires { ⌜ Checked table × (longQueue table ≡ table .queues) ⌝ }
+    ensures { λ r. ⌜ r ≡ leastSizes table ⌝ }
+{
+    let mut out = [0; Plan::QUEUES];
+    for q in 0..Plan::QUEUES {
+        out[q] = size_of(table, q) as usize;
+    }
+    out
+}
+
+fn kept(on: bool, value: usize) -> usize
+    ensures { λ r. ⌜ r ≡ only on value ⌝ }
+{
+    if on { value } else { 0 }
+}
+
+// The place of each queue: the sizes before it summed up.
+fn places_of(queues: usize, sizes: [usize; Plan::QUEUES]) -> [usize; Plan::QUEUES]
+    requires { ⌜ ((q : ℕ) → q < queueLimit → getD sizes q 0 ≤ largestSize) ⌝ }
+    ensures { λ r. ⌜ r ≡ runningPlaces queues sizes ⌝ }
+{
+    let mut out = [0; Plan::QUEUES];
+    let mut sum: usize = 0;
+    for q in 0..Plan::QUEUES {
+        out[q] = kept(q < queues, sum);
+        sum += sizes[q];
+    }
+    out
+}
+
+// The slots of all queues together.
+fn total_of(queues: usize, sizes: [usize; Plan::QUEUES]) -> usize
+    requires { ⌜ (queues ≤ queueLimit) × ((q : ℕ) → q < queueLimit → getD sizes q 0 ≤ largestSize) ⌝ }
+    ensures { λ r. ⌜ r ≡ sum (λ q. getD sizes q 0) queues ⌝ }
+{
+    let mut sum: usize = 0;
+    for q in 0..queues {
+        sum += sizes[q];
+    }
+    sum
+}
+
+// Rule 6, and the plan with its sizes and places.
+pub fn sized(table: Plan) -> Planned
+    requires { ⌜ Checked table × (longQueue table ≡ table .queues) ⌝ }
+    ensures { λ r. ⌜ r ≡ slotsJudged table ⌝ }
+{
+    let sizes = sizes_of(table);
+    if Plan::MOST_SLOTS < total_of(table.queues, sizes) {
+        return refused(Rule::TooManySlots, 0);
+    }
+    let places = places_of(table.queues, sizes);
+    let mut plan = table;
+    plan.size = sizes;
+    plan.place = places;
+    Planned {
+        answer: Answer::Accepted,
+        plan,
+    }
+}
