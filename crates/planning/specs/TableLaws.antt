@@ -1,4 +1,4 @@
--- What the table keeps of its rows: counted rows as they were handed in. So rules 1 to 3, tested on what was handed in, hold of the table.
+-- What the table keeps of its rows: counted rows as they were handed in, zeros beyond. So rules 1 to 3, tested on what was handed in, hold of the table.
 use Prim.Native.Nat.{ℕ, _+_, _*_, _/_, _%_, _<_, _≤_}
 use native.Mathlib.Omega.{arith}
 use mathlib.Core.Bool.{Bool, true, false, _&&_}
@@ -38,6 +38,12 @@ flat-at queues square q i f l b =
     let row : (q * taskLimit + i) / taskLimit ≡ q = omega arith in
     let column : (q * taskLimit + i) % taskLimit ≡ i = omega arith in
     table-at (flatEntry queues square) cellLimit (q * taskLimit + i) false (omega arith) ∙ rw (row, column, lt-ltb q queues l)
+
+pub flat-beyond : (queues : ℕ) (square : List (List Bool)) (q i : ℕ) → queues ≤ q → q < queueLimit → i < taskLimit →
+    getD (flat queues square) (q * taskLimit + i) false ≡ false
+flat-beyond queues square q i h l b =
+    let row : (q * taskLimit + i) / taskLimit ≡ q = omega arith in
+    table-at (flatEntry queues square) cellLimit (q * taskLimit + i) false (omega arith) ∙ rw (row, le-ltb q queues h)
 
 module _ (tasks queues : ℕ) (period deadline receiver : List ℕ) (square : List (List Bool)) where
   pub table-checked : countsGood tasks queues ≡ true → badTask period deadline tasks ≡ tasks → badQueue square receiver tasks queues ≡ queues →

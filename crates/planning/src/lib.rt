@@ -1,8 +1,8 @@
 // Planning: from a task table to a plan with the least number of slots, or to the first refusal of rules 1 to 6.
-pub mod cycle; // cycle.rt: a queue's hyperperiod and the messages in it
-pub mod places; // places.rt: the sizes and places of all queues
-pub mod sizes; // sizes.rt: the least number of slots of one queue
-pub mod table; // table.rt: the table as a plan without sizes
+mod cycle; // cycle.rt: a queue's hyperperiod and the messages in it
+mod places; // places.rt: the sizes and places of all queues
+mod sizes; // sizes.rt: the least number of slots of one queue
+mod table; // table.rt: the table as a plan without sizes
 
 use cycle::cycle_short;
 use places::first_long;
