@@ -1,5 +1,5 @@
 -- A test that computes and gives `Valid`: for a table that is written out.
-use Prim.Native.Nat.{ℕ, _<_, _≤_}
+use Prim.Native.Nat.{ℕ}
 use mathlib.Core.Bool.{Bool, true, _&&_}
 use mathlib.Core.Path.{_≡_}
 use lib.Dec.{leb, ltb}

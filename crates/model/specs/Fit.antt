@@ -1,14 +1,13 @@
 -- When a size is fit: a test for each message by itself. Every size above a fit one is fit, and 0 is not.
-use Prim.Native.Nat.{ℕ, zero, suc, _+_, _-_, _*_, _/_, _<_, _≤_}
+use Prim.Native.Nat.{ℕ, _+_, _-_, _<_, _≤_}
 use native.Mathlib.Omega.{arith}
-use native.Mathlib.Nat.{lt-of-not-le, not-le-of-lt, zero-mul}
+use native.Mathlib.Nat.{lt-of-not-le, not-le-of-lt}
 use mathlib.Core.Logic.{_↔_, ⊎-elim}
-use mathlib.Core.Path.{_≡_}
 use Rattle.common.specs.Tests.{lt-or-le, having}
 use Rattle.model.specs.Model.{Queue, Valid, Sender, Fit, upTo, releaseOf, deadlineOf, number, outdatedAt, horizon, outdated}
 use Rattle.model.specs.Order.{deadline-positive}
 use Rattle.model.specs.Number.{number-iff, number-onto}
-use Rattle.model.specs.Outdating.{outdated-iff, outdated-after, horizon-back}
+use Rattle.model.specs.Outdating.{outdated-iff, outdated-after}
 
 -- each message (i, k) finds its slot free: all but L of the messages up to it are outdated when its job is released
 abbrev pub Free : Queue → ℕ → ℕ → ℕ → Type 0

@@ -6,7 +6,7 @@ use Prim.Native.Nat.{ℕ, zero, suc, _+_, _*_, _/_, _≤_, _<_, _∣_}
 use native.Mathlib.Nat.{le-refl, le-trans, one-mul, mul-comm, mul-assoc, le-mul-of-pos-right, le-div-iff-mul-le, le-of-dvd, pos-of-dvd-of-pos, dvd-refl, dvd-trans, dvd-mul-right, dvd-mul-left, mul-div-cancel', div-mul-cancel, mul-dvd-mul-left, dvd-of-mul-dvd-mul-left}
 use native.Mathlib.Numerals.{add-one}
 use native.Mathlib.Omega.{arith}
-use Rattle.common.specs.Tests.{lt-or-le, true-or-false}
+use Rattle.common.specs.Tests.{lt-or-le}
 use Rattle.model.specs.Model.{Queue, Valid, Sender, CommonMultiple, gcd, lcm, multiple, hyperperiod, receiverPeriod}
 use Rattle.model.specs.Gcd.{gcd-is, gcd-scaled}
 use Rattle.model.specs.Order.{period-pos}

@@ -1,10 +1,10 @@
 -- When a message is outdated. `outdatedAt` and `horizon` are known outside only by the laws of this file, and `wantedFor` only by `wanted-fits`:
 -- a new length of `wantedFor` proves `wanted-fits` again, and nothing else.
-use Prim.Native.Nat.{ℕ, zero, suc, _+_, _-_, _*_, _/_, _<_, _≤_}
+use Prim.Native.Nat.{ℕ, suc, _+_, _-_, _*_, _/_, _<_, _≤_}
 use native.Mathlib.Omega.{arith}
 use native.Mathlib.Nat.{le-div-iff-mul-le, mul-le-mul-right, lt-of-mul-lt-mul-right, div-mul-le-self, lt-div-mul-add, add-mul-div-right}
 use mathlib.Core.Logic.{_↔_, ⊎-elim}
-use mathlib.Core.Path.{_≡_, ap}
+use mathlib.Core.Path.{_≡_}
 use Rattle.model.specs.Model.{Queue, Valid, receiverPeriod, jobFor, outdatedAt, horizon, wantedFor}
 use Rattle.common.specs.Tests.{lt-or-le}
 

@@ -4,7 +4,7 @@ use Prim.Native.Nat.{ℕ, suc, _+_, _-_, _*_, _<_, _≤_}
 use native.Mathlib.Omega.{arith}
 use native.Mathlib.Nat.{lt-of-not-le, not-le-of-lt, lt-of-mul-lt-mul-right, mul-le-mul-right, zero-mul}
 use mathlib.Core.Logic.{_↔_}
-use mathlib.Core.Path.{_≡_, refl}
+use mathlib.Core.Path.{_≡_}
 use Rattle.common.specs.Tests.{having}
 use Rattle.model.specs.Model.{Queue, Valid, Sender, receiverPeriod, deadlineOf, upTo, number, first, last, jobFor}
 use Rattle.model.specs.Number.{number-iff, upTo-zero, upTo-mono}

@@ -1,12 +1,12 @@
 -- What an accepted planning has made: a sound plan, its table as handed in with zeros beyond the counts, the least fit sizes, never
 -- above equation 3, and the places as running sums. What a refused one has made: the plan of all zeros.
-use Prim.Native.Nat.{ℕ, _+_, _*_, _<_, _≤_}
+use Prim.Native.Nat.{ℕ, _+_, _<_, _≤_}
 use native.Mathlib.Omega.{arith}
-use mathlib.Core.Bool.{Bool, true, false, not, _&&_}
+use mathlib.Core.Bool.{Bool, true, false, _&&_}
 use mathlib.Core.List.{List, _++_}
 use mathlib.Core.Logic.{_⊎_, inl, inr, _↔_}
-use mathlib.Core.Path.{_≡_, refl, sym, ap, subst, _∙_}
-use borrow.Author.Tests.{lt-ltb, le-ltb, ltb-false, leb-true, not-false}
+use mathlib.Core.Path.{_≡_, refl, sym, ap, _∙_}
+use borrow.Author.Tests.{lt-ltb, ltb-false, leb-true, not-false}
 use lib.Dec.{ltb}
 use lib.ListN.{getD}
 use Rattle.common.specs.Tests.{and-left}
@@ -25,8 +25,8 @@ use Rattle.plan.specs.Sound.{Checked, Sound, sound-iff, checked-usable, checked
 use Rattle.plan.specs.declared.Plan.{Plan}
 use Rattle.plan.specs.declared.refusal.Refusal.{Refusal}
 use Rattle.planning.specs.Table.{tabled}
-use Rattle.planning.specs.Planning.{cycleShort, messagesFew, longQueue, leastSize, leastSizes, runningPlaces, sized, refusedPlan, firstLines, tableLines, accepted, tableJudged, planOf}
-use Rattle.planning.specs.TableLaws.{table-checked, long-within, size-at, total-is}
+use Rattle.planning.specs.Planning.{cycleShort, messagesFew, longQueue, leastSize, leastSizes, sized, refusedPlan, firstLines, tableLines, accepted, tableJudged, planOf}
+use Rattle.planning.specs.TableLaws.{table-checked, long-within, size-at}
 use Rattle.planning.specs.declared.Planned.{Planned}
 use Rattle.planning.specs.declared.Answer.{Answer}
 

@@ -1,9 +1,8 @@
 -- A least size is small: equation 3 bounds it, and periods are bounded.
-use Prim.Native.Nat.{ℕ, _+_, _*_, _/_, _<_, _≤_}
+use Prim.Native.Nat.{ℕ, _+_, _*_, _/_, _≤_}
 use native.Mathlib.Omega.{arith}
 use native.Mathlib.Nat.{div-le-self, mul-le-mul-right}
-use mathlib.Core.Logic.{_↔_}
-use Rattle.common.specs.Totals.{only, sum, only-most, sum-bound, most-le}
+use Rattle.common.specs.Totals.{only, only-most, sum-bound, most-le}
 use Rattle.model.specs.Model.{reach, equation3, slots}
 use Rattle.model.specs.Equation3.{slots-bound}
 use Rattle.plan.specs.Limits.{taskLimit, longestPeriod}

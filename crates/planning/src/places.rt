@@ -5,18 +5,18 @@ use crate::cycle::cycle_good;
 use crate::cycle::hyperperiod_of;
 use crate::refused;
 use crate::sizes::slots_over;
+use crate::table::kept;
 use calendar::Multiple;
 use plan::Plan;
 use plan::refusal::Rule;
 ghost use mathlib.Core.Path.{_≡_};
-ghost use mathlib.Core.Bool.{true};
 ghost use Prim.Native.Nat.{ℕ, _<_, _≤_};
 ghost use lib.Dec.{ltb};
 ghost use lib.ListN.{getD};
 ghost use Rattle.common.specs.Totals.{only, sum};
 ghost use Rattle.plan.specs.Limits.{queueLimit};
 ghost use Rattle.plan.specs.Sound.{Checked};
-ghost use Rattle.planning.specs.Planning.{cycleShort, longQueue, leastSize, leastSizes, runningPlaces, slotsJudged};
+ghost use Rattle.planning.specs.Planning.{longQueue, leastSize, leastSizes, runningPlaces, slotsJudged};
 ghost use Rattle.planning.specs.Bounds.{largestSize};
 
 // Rules 4 and 5: the first queue that breaks one of them, and the count where none does.
@@ -58,12 +58,6 @@ fn sizes_of(table: Plan) -> [usize; Plan::QUEUES]
     out
 }
 
-fn kept(on: bool, value: usize) -> usize
-    ensures { λ r. ⌜ r ≡ only on value ⌝ }
-{
-    if on { value } else { 0 }
-}
-
 // The place of each queue: the sizes before it summed up.
 fn places_of(queues: usize, sizes: [usize; Plan::QUEUES]) -> [usize; Plan::QUEUES]
     requires { ⌜ ((q : ℕ) → q < queueLimit → getD sizes q 0 ≤ largestSize) ⌝ }
@@ -72,7 +66,7 @@ fn places_of(queues: usize, sizes: [usize; Plan::QUEUES]) -> [usize; Plan::QUEUE
     let mut out = [0; Plan::QUEUES];
     let mut sum: usize = 0;
     for q in 0..Plan::QUEUES {
-        out[q] = kept(q < queues, sum);
+        out[q] = kept(q < queues, sum as u64) as usize;
         sum += sizes[q];
     }
     out

@@ -6,7 +6,8 @@ ghost use Rattle.common.specs.Totals.{only};
 ghost use Rattle.plan.specs.Limits.{taskLimit, queueLimit};
 ghost use Rattle.planning.specs.Table.{counted, flat, tabled};
 
-fn kept(on: bool, value: u64) -> u64
+// A counted row keeps its value, a row beyond the count is 0.
+pub fn kept(on: bool, value: u64) -> u64
     ensures { λ r. ⌜ r ≡ only on value ⌝ }
 {
     if on { value } else { 0 }

@@ -1,7 +1,5 @@
 -- `planning::judged_table`: the first queue that breaks rule 4 or 5 breaks 4, or 5; where there is none the total decides.
-use Prim.Native.Nat.{_<_, _≤_}
 use native.Mathlib.Omega.{arith}
-use mathlib.Core.Path.{_≡_}
 use borrow.Author.Needs.{needs}
 use borrow.Author.Tests.{lt-ltb, le-ltb, not-true, not-false}
 use Rattle.plan.specs.Sound.{checked-usable}

@@ -1,6 +1,6 @@
 -- `planning::cycle::cycle_short`: the hyperperiod was found within the limit, or over it.
-use Prim.Native.Nat.{_<_, _≤_}
-use mathlib.Core.Path.{_≡_, sym, _∙_}
+use Prim.Native.Nat.{_<_}
+use mathlib.Core.Path.{sym, _∙_}
 use borrow.Author.Needs.{needs}
 use Rattle.common.specs.Tests.{tests}
 use Rattle.model.specs.Model.{hyperperiod}

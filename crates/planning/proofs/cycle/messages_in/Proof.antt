@@ -1,5 +1,5 @@
 -- `planning::cycle::messages_in`: the loop keeps the sum over the rows passed, at most one message a tick for each.
-use Prim.Native.Nat.{ℕ, _*_, _-_, _/_, _≤_}
+use Prim.Native.Nat.{ℕ, _*_, _-_, _≤_}
 use native.Mathlib.Nat.{div-le-self}
 use native.Mathlib.Omega.{arith}
 use mathlib.Core.Path.{_≡_, refl}

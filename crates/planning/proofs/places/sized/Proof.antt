@@ -1,10 +1,7 @@
 -- `planning::places::sized`: the sizes are the least ones, and their total decides rule 6.
 use Prim.Native.Nat.{_<_, _≤_}
-use native.Mathlib.Omega.{arith}
-use mathlib.Core.Path.{_≡_}
 use borrow.Author.Needs.{needs}
 use borrow.Author.Tests.{lt-ltb, le-ltb}
-use lib.ListN.{getD}
 use Rattle.common.specs.Totals.{sum}
 use Rattle.plan.specs.Limits.{mostSlots}
 use Rattle.planning.specs.Planning.{leastSize, sized, slotsJudged}

@@ -1,9 +1,7 @@
 -- `planning::sizes::need_of`: the message's number less those that are outdated at its job's release, of which it is none.
-use Prim.Native.Nat.{_-_, _≤_}
 use native.Mathlib.Omega.{arith}
-use mathlib.Core.Path.{_≡_, ap, _∙_}
 use borrow.Author.Needs.{needs}
-use Rattle.model.specs.Model.{horizon, outdated, need, upTo, number, releaseOf}
+use Rattle.model.specs.Model.{outdated, need, number, releaseOf}
 use Rattle.model.specs.Outdating.{horizon-back}
 use Rattle.model.specs.Fit.{outdated-less}
 use Rattle.plan.specs.Plan.{queueAt}

@@ -1,11 +1,11 @@
 -- `planning::sizes::row_slots`: the loop keeps the greatest need of the jobs passed. The second hyperperiod ends before the last tick.
-use Prim.Native.Nat.{ℕ, _+_, _*_, _-_, _/_, _<_, _≤_}
+use Prim.Native.Nat.{ℕ, _+_, _-_, _/_, _<_, _≤_}
 use native.Mathlib.Nat.{div-le-self, mul-le-mul-right}
 use native.Mathlib.Omega.{arith}
 use mathlib.Core.Path.{_≡_, refl}
 use borrow.Author.Needs.{needs}
 use Rattle.common.specs.Totals.{most, most-next}
-use Rattle.model.specs.Model.{Queue, Sender, CommonMultiple, deadlineOf, need, rowSlots}
+use Rattle.model.specs.Model.{Sender, CommonMultiple, deadlineOf, need, rowSlots}
 use Rattle.model.specs.Order.{period-pos}
 use Rattle.plan.specs.Limits.{lastTick, longestHyperperiod}
 use Rattle.plan.specs.Plan.{queueAt, Usable}
