@@ -1,16 +1,17 @@
 -- What the lookups answer in document 01's numbers: the number of the rule that refuses, 0 where none does, and the values.
 -- `row`, the value of a refusal, is 0 in all of them: "all others name 0".
 use Prim.Native.Nat.{ℕ}
-use mathlib.Core.Bool.{Bool, true, false, cond, not}
+use mathlib.Core.Bool.{cond, not}
 use mathlib.Core.List.{List, [], _∷_}
-use mathlib.Core.Path.{_≡_, refl}
+use mathlib.Core.Path.{_≡_}
 use lib.Dec.{ltb, eqb}
 use Rattle.model.specs.Model.{receiverPeriod, released, deadlineOf, number, upTo, senderOf, jobOf, first, last}
 use Rattle.calendar.specs.declared.Job.{Job}
 use Rattle.calendar.specs.declared.Number.{Number}
 use Rattle.plan.specs.Limits.{lastTick}
 use Rattle.plan.specs.Plan.{queueAt}
-use Rattle.plan.specs.Refusals.{Line, numberOf, judged}
+use Rattle.plan.specs.Refusals.{numberOf}
+use Rattle.plan.specs.Verdicts.{judged-map}
 use Rattle.plan.specs.Rules.{soundPlan, connected}
 use Rattle.plan.specs.declared.Plan.{Plan}
 use Rattle.plan.specs.declared.refusal.Refusal.{Refusal}
@@ -43,18 +44,6 @@ windowSays (Window.Refused r) = refusedSays r
 abbrev pub no : ℕ → Said
 no rule = (rule, 0 ∷ [])
 
--- what is said of a chain's answer is the chain's answer of what is said
-says-judged : {A : Type 0} (says : A → Said) (refused : Refusal → A) (good : A) (lines : List Line) →
-    says (judged lines refused good) ≡ judged lines (λ r. says (refused r)) (says good)
-says-judged says refused good [] = refl
-says-judged says refused good (line ∷ lines) = go (line .applies) (says-judged says refused good lines)
-  where
-    go : (b : Bool) → says (judged lines refused good) ≡ judged lines (λ r. says (refused r)) (says good) →
-        says (cond b (refused (line .given)) (judged lines refused good)) ≡
-        cond b (says (refused (line .given))) (judged lines (λ r. says (refused r)) (says good))
-    go true e = refl
-    go false e = e
-
 -- "lookups 7, 9, then 11 or 15"
 pub number-says : (p : Plan) (q i : ℕ) (k : Job) →
     numberedSays (numberedOf p q i k) ≡
@@ -63,7 +52,7 @@ pub number-says : (p : Plan) (q i : ℕ) (k : Job) →
     (cond (ltb lastTick (deadlineOf (queueAt p q) i (k .0))) (no 11)
     (0, number (queueAt p q) i (k .0) ∷ [])))
 unfolding numberedOf
-number-says p q i k = says-judged numberedSays Numbered.Refused _ (numberLines p q i k)
+number-says p q i k = judged-map numberedSays (numberLines p q i k) Numbered.Refused _
 
 pub origins-says : (p : Plan) (q : ℕ) (n : Number) →
     originsSays (originsOf p q n) ≡
@@ -73,7 +62,7 @@ pub origins-says : (p : Plan) (q : ℕ) (n : Number) →
     (cond (ltb (upTo (queueAt p q) lastTick) (n .0)) (no 15)
     (0, senderOf (queueAt p q) lastTick (n .0) ∷ jobOf (queueAt p q) lastTick (n .0) ∷ []))))
 unfolding originsOf
-origins-says p q n = says-judged originsSays Origins.Refused _ (originLines p q n)
+origins-says p q n = judged-map originsSays (originLines p q n) Origins.Refused _
 
 pub window-says : (p : Plan) (q : ℕ) (m : Job) →
     windowSays (windowOf p q m) ≡
@@ -82,4 +71,4 @@ pub window-says : (p : Plan) (q : ℕ) (m : Job) →
     (cond (ltb lastTick (released (receiverPeriod (queueAt p q)) (m .0))) (no 11)
     (0, first (queueAt p q) (m .0) ∷ last (queueAt p q) (m .0) ∷ [])))
 unfolding windowOf
-window-says p q m = says-judged windowSays Window.Refused _ (windowLines p q m)
+window-says p q m = judged-map windowSays (windowLines p q m) Window.Refused _

@@ -27,6 +27,12 @@ pub struct Refusal {
     pub row: usize,
 }
 
+// What the tests of a call come to.
+pub enum Verdict {
+    Clear,
+    Refused(Refusal),
+}
+
 // Document 01's number of a rule.
 pub fn rule_number(rule: Rule) -> u8
     ensures { λ r. ⌜ r ≡ numberOf rule ⌝ }

@@ -20,7 +20,7 @@ use Rattle.plan.specs.Limits.{queueLimit, longestHyperperiod, mostSlots}
 use Rattle.plan.specs.Plan.{zeros, queueAt, sizeAt, placeAt, Usable}
 use Rattle.plan.specs.Rules.{soundPlan}
 use Rattle.plan.specs.Refusals.{judged}
-use Rattle.plan.specs.Verdicts.{Passed, Stopped, verdict, passed-good, stopped-refused, judged-good}
+use Rattle.plan.specs.Verdicts.{Passed, Stopped, passed-or-stopped, passed-good, stopped-refused, judged-good}
 use Rattle.plan.specs.Sound.{Checked, Sound, sound-iff, checked-usable, checked-sender, usable}
 use Rattle.plan.specs.declared.Plan.{Plan}
 use Rattle.plan.specs.declared.refusal.Refusal.{Refusal}
@@ -144,7 +144,7 @@ module _ (tasks queues : ℕ) (period deadline receiver : List ℕ) (square : Li
   -- "A refused planning gives the plan of all zeros"
   pub refused-zeros : (r : Refusal) → planOf tasks queues period deadline receiver square .answer ≡ Answer.Refused r →
       planOf tasks queues period deadline receiver square .plan ≡ zeros
-  refused-zeros r e = go (verdict (firstLines tasks queues period deadline receiver square ++ tableLines T))
+  refused-zeros r e = go (passed-or-stopped (firstLines tasks queues period deadline receiver square ++ tableLines T))
     where
       go : Passed (firstLines tasks queues period deadline receiver square ++ tableLines T)
           ⊎ ((s : Refusal) × Stopped (firstLines tasks queues period deadline receiver square ++ tableLines T) s) →

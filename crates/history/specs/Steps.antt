@@ -1,0 +1,276 @@
+-- One call, by what it comes to. Every later proof goes by this list of cases and never looks at the tests again.
+-- It leans on Verdicts: a call is accepted exactly when its lines pass.
+use Prim.Native.Nat.{ℕ, _+_, _*_, _≤_, _<_}
+use mathlib.Core.Bool.{Bool, true, false, cond, _&&_, _||_, true≢false}
+use mathlib.Core.List.{List, []}
+use mathlib.Core.Logic.{_⊎_, inl, inr, ⊎-elim}
+use mathlib.Core.Path.{_≡_, refl, sym, ap, subst, _∙_}
+use lib.Dec.{ltb, eqb}
+use lib.ListN.{length, getD}
+use borrow.Author.Tests.{ltb-true, ltb-false, leb-false, eqb-true, not-false, lt-ltb, le-ltb, lt-leb, eq-eqb}
+use Rattle.common.specs.Tests.{lt-or-le, both}
+use Rattle.model.specs.Model.{Sender, last, wantedUntil, senderOf}
+use Rattle.calendar.specs.Calendar.{message, slot}
+use Rattle.calendar.specs.declared.Slot.{Slot}
+use Rattle.calendar.specs.declared.Number.{Number}
+use Rattle.mailbox.specs.declared.State.{State}
+use Rattle.plan.specs.Refusals.{Line}
+use Rattle.plan.specs.Limits.{taskLimit, lastTick, payloadBytes, slotBytes}
+use Rattle.plan.specs.Plan.{queueAt, slotsOf}
+use Rattle.plan.specs.Rules.{soundPlan, connected}
+use Rattle.plan.specs.declared.Plan.{Plan}
+use Rattle.plan.specs.declared.refusal.Refusal.{Refusal}
+use Rattle.mailbox.specs.Slots.{numberIn, stored}
+use Rattle.mailbox.specs.Calls.{sendLines, receiveLines, sendAnswer, sendState, sendMemory, look, found, receiveState, sentState, readPast, movedTo, steppedOn, runningJob, runningDeadline, runningNumber, receivingJob, nextNumber, slotIn, slotFor}
+use Rattle.mailbox.specs.declared.Sent.{Sent}
+use Rattle.mailbox.specs.declared.Received.{Received}
+use Rattle.plan.specs.Verdicts.{Passed, Stopped, passed-good, stopped-refused, passed-or-stopped}
+use Rattle.history.specs.History.{Call, send, receive, askNumber, askWayBack, askWindow, askView, World, sendSays, receiveSays, after, Sends, accepted, reads, readings, Tells, ofMessage, ofGap, Accepted, stores, tells, empty}
+
+-- ## When a call is accepted
+
+pub record CanSend (p : Plan) (w : World) (q i t : ℕ) (payload : List ℕ) : Type 0 where
+  pub sound : soundPlan p ≡ true
+  pub room : slotsOf p * slotBytes ≤ length (w .memory)
+  pub width : length payload ≡ payloadBytes
+  pub queue : q < p .queues
+  pub sender : Sender (queueAt p q) i
+  pub tick-fits : t ≤ lastTick
+  pub deadline-fits : runningDeadline (queueAt p q) i t ≤ lastTick
+  pub not-past : w .state .tick .0 ≤ t
+  pub in-time : t < runningDeadline (queueAt p q) i t
+  pub unsent : getD (w .state .sent) (q * taskLimit + i) 0 ≤ runningJob (queueAt p q) i t
+
+pub record CanReceive (p : Plan) (w : World) (q t : ℕ) : Type 0 where
+  pub sound : soundPlan p ≡ true
+  pub room : slotsOf p * slotBytes ≤ length (w .memory)
+  pub queue : q < p .queues
+  pub tick-fits : t ≤ lastTick
+  pub not-past : w .state .tick .0 ≤ t
+  pub in-time : t < wantedUntil (queueAt p q) (receivingJob (queueAt p q) t)
+
+neither : (a : Bool) {b : Bool} → (a || b) ≡ false → (a ≡ false) × (b ≡ false)
+neither true h = absurd (true≢false h)
+neither false h = (refl, h)
+
+module _ (p : Plan) (w : World) where
+  can-send : (q i t : ℕ) (payload : List ℕ) → Passed (sendLines (w .state) p (w .memory) q i t payload) → CanSend p w q i t payload
+  can-send q i t payload h =
+      let c = both (ltb q (p .queues)) (not-false (connected p q i) (h .1 .1 .1 .0)) in
+      let d = both (ltb i (p .tasks)) (c .1) in
+      let e = neither (ltb lastTick t) (h .1 .1 .1 .1 .0) in
+      record {
+        sound = not-false (soundPlan p) (h .0);
+        room = ltb-false _ _ (h .1 .0);
+        width = eqb-true _ _ (not-false (eqb (length payload) payloadBytes) (h .1 .1 .0));
+        queue = ltb-true _ _ (c .0);
+        sender = record { row = ltb-true _ _ (d .0); on = d .1 };
+        tick-fits = ltb-false _ _ (e .0);
+        deadline-fits = ltb-false _ _ (e .1);
+        not-past = ltb-false _ _ (h .1 .1 .1 .1 .1 .0);
+        in-time = leb-false _ _ (h .1 .1 .1 .1 .1 .1 .0);
+        unsent = ltb-false _ _ (h .1 .1 .1 .1 .1 .1 .1 .0);
+      }
+
+  send-passes : (q i t : ℕ) (payload : List ℕ) → CanSend p w q i t payload → Passed (sendLines (w .state) p (w .memory) q i t payload)
+  send-passes q i t payload h =
+      (rw (h .sound), (le-ltb _ _ (h .room), (rw (eq-eqb (length payload) payloadBytes (h .width)), (rw (lt-ltb q (p .queues) (h .queue), lt-ltb i (p .tasks) (h .sender .row), h .sender .on), (rw (le-ltb lastTick t (h .tick-fits), le-ltb lastTick (runningDeadline (queueAt p q) i t) (h .deadline-fits)), (le-ltb _ _ (h .not-past), (lt-leb _ _ (h .in-time), (le-ltb _ _ (h .unsent), (tt)))))))))
+
+  pub can-receive : (q t : ℕ) → Passed (receiveLines (w .state) p (w .memory) q t) → CanReceive p w q t
+  can-receive q t h =
+      record {
+        sound = not-false (soundPlan p) (h .0);
+        room = ltb-false _ _ (h .1 .0);
+        queue = ltb-true _ _ (not-false (ltb q (p .queues)) (h .1 .1 .0));
+        tick-fits = ltb-false _ _ (h .1 .1 .1 .0);
+        not-past = ltb-false _ _ (h .1 .1 .1 .1 .0);
+        in-time = leb-false _ _ (h .1 .1 .1 .1 .1 .0);
+      }
+
+  receive-passes : (q t : ℕ) → CanReceive p w q t → Passed (receiveLines (w .state) p (w .memory) q t)
+  receive-passes q t h =
+      (rw (h .sound), (le-ltb _ _ (h .room), (rw (lt-ltb q (p .queues) (h .queue)), (le-ltb _ _ (h .tick-fits), (le-ltb _ _ (h .not-past), (lt-leb _ _ (h .in-time), (tt)))))))
+
+  -- ## What an accepted call leaves
+
+  abbrev pub numberAt : ℕ → ℕ → ℕ → ℕ
+  numberAt q i t = runningNumber (queueAt p q) i t
+
+  abbrev pub sentWorld : ℕ → ℕ → ℕ → List ℕ → World
+  sentWorld q i t payload = record {
+    state = sentState (w .state) p q i t;
+    memory = stored payloadBytes (w .memory) (slotFor p q (numberAt q i t)) (numberAt q i t) payload;
+  }
+
+  -- the number that a receive on queue q at tick t comes to
+  abbrev pub next : ℕ → ℕ → ℕ
+  next q t = nextNumber (w .state) p q t
+
+  -- the last number of the window of the receiver's job that runs at tick t
+  abbrev pub lastAt : ℕ → ℕ → ℕ
+  lastAt q t = last (queueAt p q) (receivingJob (queueAt p q) t)
+
+  abbrev pub readWorld : ℕ → ℕ → World
+  readWorld q t = record { state = readPast (w .state) q t (next q t); memory = w .memory }
+
+  abbrev pub movedWorld : ℕ → World
+  movedWorld t = record { state = movedTo (w .state) t; memory = w .memory }
+
+  -- ## The answers
+
+  pub send-stores : (q i t : ℕ) (payload : List ℕ) → CanSend p w q i t payload →
+      sendSays p w q i t payload ≡ Sent.Stored (message (numberAt q i t)) (slot (slotIn p q (numberAt q i t)))
+  unfolding sendAnswer
+  send-stores q i t payload h = passed-good (sendLines (w .state) p (w .memory) q i t payload) Sent.Refused _ (send-passes q i t payload h)
+
+  pub receive-finds : (q t : ℕ) → CanReceive p w q t → next q t ≤ lastAt q t → receiveSays p w q t ≡ found p (w .memory) q (next q t)
+  unfolding look
+  receive-finds q t h l =
+      passed-good (receiveLines (w .state) p (w .memory) q t) Received.Refused _ (receive-passes q t h) ∙ rw (le-ltb (lastAt q t) (next q t) l)
+
+  pub receive-ends : (q t : ℕ) → CanReceive p w q t → lastAt q t < next q t → receiveSays p w q t ≡ Received.Empty
+  unfolding look
+  receive-ends q t h l =
+      passed-good (receiveLines (w .state) p (w .memory) q t) Received.Refused _ (receive-passes q t h) ∙ rw (lt-ltb (lastAt q t) (next q t) l)
+
+  pub receive-refused : (q t : ℕ) (r : Refusal) → Stopped (receiveLines (w .state) p (w .memory) q t) r → receiveSays p w q t ≡ Received.Refused r
+  unfolding look
+  receive-refused q t r h = stopped-refused (receiveLines (w .state) p (w .memory) q t) r Received.Refused _ h
+
+-- ## One call
+
+-- a call that sends nothing, tells nothing and changes nothing: a refused one, a lookup, a view
+pub record Quiet (p : Plan) (w : World) (c : Call) : Type 0 where
+  pub no-send : (q n : ℕ) (payload : List ℕ) → Sends p w c q n payload → ⊥
+  pub no-reading : (filler : List ℕ) (q k : ℕ) → reads p filler w c q k ≡ []
+
+pub data Step (p : Plan) (w : World) : Call → World → Type 0 where
+  sends : {q i t : ℕ} {payload : List ℕ} → CanSend p w q i t payload → Step p w (send q i t payload) (sentWorld p w q i t payload)
+  finds : {q t : ℕ} → CanReceive p w q t → next p w q t ≤ lastAt p w q t → Step p w (receive q t) (readWorld p w q t)
+  ends : {q t : ℕ} → CanReceive p w q t → lastAt p w q t < next p w q t → Step p w (receive q t) (movedWorld p w t)
+  stays : {c : Call} → Quiet p w c → Step p w c w
+
+-- ## Every call is one of these
+
+stored-or-refused : (n : Number) (s : Slot) (r : Refusal) → Sent.Stored n s ≡ Sent.Refused r → ⊥
+stored-or-refused n s r e = true≢false (ap isStored e)
+  where
+    isStored : Sent → Bool
+    isStored (Sent.Stored n s) = true
+    isStored (Sent.Refused r) = false
+
+neither-arm : {A : Type 0} (b : Bool) (x : A) → cond b x x ≡ x
+neither-arm true x = refl
+neither-arm false x = refl
+
+module _ (p : Plan) (w : World) where
+  -- what a call leaves, given the state and the memory that it leaves
+  leaves : {s : State} {m : List ℕ} {s′ : State} {m′ : List ℕ} → s ≡ s′ → m ≡ m′ → _≡_ {A = World} (record { state = s; memory = m }) (record { state = s′; memory = m′ })
+  leaves {s} {m} {s′} {m′} e d = ap (λ (x : State). record { state = x; memory = m }) e ∙ ap (λ (y : List ℕ). record { state = s′; memory = y }) d
+
+  pub after-send : (q i t : ℕ) (payload : List ℕ) → CanSend p w q i t payload → after p w (send q i t payload) ≡ sentWorld p w q i t payload
+  unfolding after sendState sendMemory
+  after-send q i t payload h =
+      let lines : List Line = sendLines (w .state) p (w .memory) q i t payload in
+      let passed : Passed lines = send-passes p w q i t payload h in
+      leaves (passed-good lines (λ r. w .state) _ passed) (passed-good lines (λ r. w .memory) _ passed)
+
+  send-step : (q i t : ℕ) (payload : List ℕ) → Step p w (send q i t payload) (after p w (send q i t payload))
+  unfolding after sendState sendMemory sendAnswer
+  send-step q i t payload = go (passed-or-stopped (sendLines (w .state) p (w .memory) q i t payload))
+    where
+      lines : List Line
+      lines = sendLines (w .state) p (w .memory) q i t payload
+
+      go : Passed lines ⊎ ((r : Refusal) × Stopped lines r) → Step p w (send q i t payload) (after p w (send q i t payload))
+      go (inl h) =
+          let can : CanSend p w q i t payload = can-send p w q i t payload h in
+          subst (λ (x : World). Step p w (send q i t payload) x) (sym (after-send q i t payload can)) (sends can)
+      go (inr h) =
+          subst (λ (x : World). Step p w (send q i t payload) x)
+          (sym (leaves (stopped-refused lines (h .0) (λ r. w .state) _ (h .1)) (stopped-refused lines (h .0) (λ r. w .memory) _ (h .1))))
+          (stays (record { no-send = silent (h .0) (stopped-refused lines (h .0) Sent.Refused _ (h .1)); no-reading = λ filler q k. refl }))
+        where
+          silent : (r : Refusal) → sendSays p w q i t payload ≡ Sent.Refused r → (q′ n : ℕ) (payload′ : List ℕ) → Sends p w (send q i t payload) q′ n payload′ → ⊥
+          silent r e q′ n payload′ (accepted d) = stored-or-refused _ _ r (sym d ∙ e)
+
+  -- a receive that comes to number n, whether its slot holds n or not
+  found-read : (s : State) (q t n : ℕ) → steppedOn s q t (found p (w .memory) q n) ≡ readPast s q t n
+  unfolding found
+  found-read s q t n = go (eqb (numberIn payloadBytes (w .memory) (slotFor p q n)) n)
+    where
+      go : (b : Bool) → steppedOn s q t (cond b (Received.Message (message n) (slot (slotFor p q n))) (Received.Gap (message n) (senderOf (queueAt p q) lastTick n))) ≡ readPast s q t n
+      go true = refl
+      go false = refl
+
+  -- either way it tells n
+  pub found-tells : (q n : ℕ) → Tells (found p (w .memory) q n) n
+  unfolding found
+  found-tells q n = go (eqb (numberIn payloadBytes (w .memory) (slotFor p q n)) n)
+    where
+      go : (b : Bool) → Tells (cond b (Received.Message (message n) (slot (slotFor p q n))) (Received.Gap (message n) (senderOf (queueAt p q) lastTick n))) n
+      go true = ofMessage
+      go false = ofGap
+
+  -- a receive leaves what its answer says
+  by-answer : (q t : ℕ) (a : Received) → receiveSays p w q t ≡ a → after p w (receive q t) ≡ record { state = steppedOn (w .state) q t a; memory = w .memory }
+  unfolding after receiveState
+  by-answer q t a e = leaves (ap (steppedOn (w .state) q t) e) refl
+
+  pub after-finds : (q t : ℕ) → CanReceive p w q t → next p w q t ≤ lastAt p w q t → after p w (receive q t) ≡ readWorld p w q t
+  after-finds q t h l = by-answer q t _ (receive-finds p w q t h l) ∙ leaves (found-read (w .state) q t (next p w q t)) refl
+
+  pub after-ends : (q t : ℕ) → CanReceive p w q t → lastAt p w q t < next p w q t → after p w (receive q t) ≡ movedWorld p w t
+  after-ends q t h l = by-answer q t _ (receive-ends p w q t h l)
+
+  -- an accepted receive sets the tick
+  pub receive-moves : (q t : ℕ) → CanReceive p w q t → after p w (receive q t) .state .tick .0 ≡ t
+  receive-moves q t h =
+      ⊎-elim (λ (l : lastAt p w q t < next p w q t). ap (λ (x : World). x .state .tick .0) (after-ends q t h l))
+      (λ (l : next p w q t ≤ lastAt p w q t). ap (λ (x : World). x .state .tick .0) (after-finds q t h l))
+      (lt-or-le (lastAt p w q t) (next p w q t))
+
+  receive-step : (q t : ℕ) → Step p w (receive q t) (after p w (receive q t))
+  receive-step q t = go (passed-or-stopped (receiveLines (w .state) p (w .memory) q t)) (lt-or-le (lastAt p w q t) (next p w q t))
+    where
+      lines : List Line
+      lines = receiveLines (w .state) p (w .memory) q t
+
+      leaving : {x : World} → after p w (receive q t) ≡ x → Step p w (receive q t) x → Step p w (receive q t) (after p w (receive q t))
+      leaving e s = subst (λ (x : World). Step p w (receive q t) x) (sym e) s
+
+      quiet : (r : Refusal) → receiveSays p w q t ≡ Received.Refused r → (filler : List ℕ) (q′ k : ℕ) → reads p filler w (receive q t) q′ k ≡ []
+      quiet r e filler q′ k =
+          ap (λ (a : Received). cond (eqb q q′ && eqb (receivingJob (queueAt p q′) t) k) (readings a (w .memory) filler) []) e
+          ∙ neither-arm (eqb q q′ && eqb (receivingJob (queueAt p q′) t) k) []
+
+      go : Passed lines ⊎ ((r : Refusal) × Stopped lines r) → (lastAt p w q t < next p w q t) ⊎ (next p w q t ≤ lastAt p w q t) →
+          Step p w (receive q t) (after p w (receive q t))
+      go (inl h) (inl l) = let can : CanReceive p w q t = can-receive p w q t h in leaving (after-ends q t can l) (ends can l)
+      go (inl h) (inr l) = let can : CanReceive p w q t = can-receive p w q t h in leaving (after-finds q t can l) (finds can l)
+      go (inr h) l =
+          let e : receiveSays p w q t ≡ Received.Refused (h .0) = receive-refused p w q t (h .0) (h .1) in
+          leaving (by-answer q t (Received.Refused (h .0)) e) (stays (record { no-send = λ r n payload s. elim s [ ]; no-reading = quiet (h .0) e }))
+
+  looks : (c : Call) → after p w c ≡ w → ((q n : ℕ) (payload : List ℕ) → Sends p w c q n payload → ⊥) → ((filler : List ℕ) (q k : ℕ) → reads p filler w c q k ≡ []) → Step p w c (after p w c)
+  looks c e a b = subst (λ (x : World). Step p w c x) (sym e) (stays (record { no-send = a; no-reading = b }))
+
+  pub step : (c : Call) → Step p w c (after p w c)
+  unfolding after
+  step (send q i t payload) = send-step q i t payload
+  step (receive q t) = receive-step q t
+  step (askNumber q i k) = looks (askNumber q i k) refl (λ r n payload s. elim s [ ]) (λ filler r j. refl)
+  step (askWayBack q n) = looks (askWayBack q n) refl (λ r n payload s. elim s [ ]) (λ filler r j. refl)
+  step (askWindow q k) = looks (askWindow q k) refl (λ r n payload s. elim s [ ]) (λ filler r j. refl)
+  step (askView a f) = looks (askView a f) refl (λ r n payload s. elim s [ ]) (λ filler r j. refl)
+
+  -- a call that is no accepted send or receive changes nothing
+  pub others-change-nothing : (c : Call) → ¬ Accepted p w c → after p w c ≡ w
+  others-change-nothing c none = go (step c) none
+    where
+      go : {c : Call} {w′ : World} → Step p w c w′ → ¬ Accepted p w c → w′ ≡ w
+      go (sends {q = q} {i = i} {t = t} {payload = payload} h) none = absurd (none (stores (send-stores p w q i t payload h)))
+      go (finds {q = q} {t = t} h l) none =
+          absurd (none (tells (subst (λ (a : Received). Tells a (next p w q t)) (sym (receive-finds p w q t h l)) (found-tells q (next p w q t)))))
+      go (ends {q = q} {t = t} h l) none = absurd (none (empty (receive-ends p w q t h l)))
+      go (stays quiet) none = refl

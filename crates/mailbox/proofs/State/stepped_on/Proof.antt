@@ -1,0 +1,35 @@
+-- `State::stepped_on`: a clause of the definition for each kind of answer.
+use borrow.Author.Needs.{needs}
+use Rattle.mailbox.proofs.State.stepped_on.Statement.{statement}
+use Rattle.mailbox.proofs.State.stepped_on.Tie as tie
+
+read-past-requires : tie.Need-read-past-requires
+read-past-requires c κs = rw (c .before .answer .given .1) at (c .before .before .before .pre)
+
+read-past-requires-2 : tie.Need-read-past-requires-2
+read-past-requires-2 c κs = rw (c .before .answer2 .given .1) at (c .before .before .before .pre)
+
+returns : tie.Need-returns
+returns c = rw (c .before .before .answer .given .1) (c .read-past .ensures)
+
+returns-2 : tie.Need-returns-2
+returns-2 c = rw (c .before .before .answer2 .given .1) (c .read-past2 .ensures)
+
+returns-3 : tie.Need-returns-3
+returns-3 c = rw (c .before .enum-told .given .1) (c .moved-to .ensures)
+
+pub stepped-on-spec : {M : Type 1} → statement M
+stepped-on-spec =
+    tie.close
+    (tie.spec
+    (λ c. search needs)
+    read-past-requires
+    (λ c. search needs)
+    read-past-requires-2
+    (λ c. search needs)
+    (λ c κs. search needs)
+    (λ c. search needs)
+    returns
+    returns-2
+    returns-3
+    (λ c. search needs))

@@ -1,0 +1,156 @@
+-- What accepted calls do for each other: a start leaves every slot unwritten, and a message that was sent is the one that a receive of
+-- its number finds, with its payload in view. Histories with other calls between are the crate history's.
+use Prim.Native.Nat.{ℕ, _+_, _*_, _<_, _≤_, _^_}
+use native.Mathlib.Omega.{arith}
+use native.Mathlib.Nat.{div-mul-le-self}
+use mathlib.Core.List.{List}
+use mathlib.Core.Path.{_≡_, refl, sym, ap, _∙_}
+use lib.ListN.{length}
+use borrow.Author.Tests.{lt-ltb, le-ltb, lt-leb, le-leb, eq-eqb}
+use Rattle.model.specs.Model.{receiverPeriod, number, last, wantedUntil}
+use Rattle.model.specs.Number.{number-below}
+use Rattle.model.specs.Window.{last-iff}
+use Rattle.calendar.specs.Calendar.{message, slot}
+use Rattle.calendar.specs.declared.Number.{Number}
+use Rattle.calendar.specs.declared.Slot.{Slot}
+use Rattle.plan.specs.Limits.{lastTick, payloadBytes, slotBytes}
+use Rattle.plan.specs.Plan.{queueAt, slotsOf}
+use Rattle.plan.specs.Refusals.{Line, judged}
+use Rattle.plan.specs.Sound.{sound-iff, usable}
+use Rattle.plan.specs.declared.Plan.{Plan}
+use Rattle.plan.specs.declared.refusal.Refusal.{Refusal}
+use Rattle.numbering.specs.Bounds.{upTo-fits}
+use Rattle.mailbox.specs.Slots.{slotAt, numberIn, payloadIn, stored}
+use Rattle.mailbox.specs.SlotLaws.{number-same, payload-same, length-stored, number-cleared}
+use Rattle.mailbox.specs.Calls.{startLines, startAnswer, startMemory, sendLines, runningJob, runningNumber, runningDeadline, slotFor, sendAnswer, sendState, sendMemory, receiveLines, receivingJob, nextNumber, found, look}
+use Rattle.mailbox.specs.View.{viewOf}
+use Rattle.plan.specs.Verdicts.{verdict, outcome, by-verdict, by-clear, Passed, passed-clear}
+use Rattle.mailbox.specs.Accepted.{SendTaken, send-taken, slot-inside}
+use Rattle.mailbox.specs.Outcomes.{started-clear, sent-clear}
+use Rattle.mailbox.specs.Outcomes.{accepted}
+use Rattle.mailbox.specs.declared.State.{State}
+use Rattle.mailbox.specs.declared.Started.{Started}
+use Rattle.mailbox.specs.declared.Sent.{Sent}
+use Rattle.mailbox.specs.declared.Sending.{Sending}
+use Rattle.mailbox.specs.declared.Received.{Received}
+use Rattle.plan.specs.declared.refusal.Verdict.{Verdict}
+
+-- an answer that no refusal gives is given where all lines are passed
+no-refusal : {A : Type 0} (lines : List Line) (refused : Refusal → A) (good a : A) → ((r : Refusal) → refused r ≡ a → ⊥) →
+    judged lines refused good ≡ a → verdict lines ≡ Verdict.Clear
+no-refusal {A} lines refused good a apart e = go (verdict lines) (sym (by-verdict lines refused good) ∙ e)
+  where
+    go : (v : Verdict) → outcome v refused good ≡ a → v ≡ Verdict.Clear
+    go Verdict.Clear e = refl
+    go (Verdict.Refused r) e = absurd (apart r e)
+
+pub start-is-clear : (p : Plan) (m : List ℕ) → startAnswer p m ≡ Started.Ready → verdict (startLines p m) ≡ Verdict.Clear
+unfolding startAnswer
+start-is-clear p m e =
+    no-refusal (startLines p m) Started.Refused Started.Ready Started.Ready (λ r f. let z : _≡_ {A = ℕ} 0 1 = cc in omega arith) e
+
+pub send-is-clear : (s : State) (p : Plan) (m : List ℕ) (q i t : ℕ) (payload : List ℕ) (n : Number) (at : Slot) →
+    sendAnswer s p m q i t payload ≡ Sent.Stored n at → verdict (sendLines s p m q i t payload) ≡ Verdict.Clear
+unfolding sendAnswer
+send-is-clear s p m q i t payload n at e =
+    no-refusal (sendLines s p m q i t payload) Sent.Refused _ (Sent.Stored n at) (λ r f. let z : _≡_ {A = ℕ} 0 1 = cc in omega arith) e
+
+-- "Start clears the slots of the plan": each reads as never written
+pub start-unwritten : (p : Plan) (m : List ℕ) (k : ℕ) → startAnswer p m ≡ Started.Ready → k < slotsOf p →
+    numberIn payloadBytes (startMemory p m) k ≡ 0
+start-unwritten p m k e h =
+    rw (started-clear p m refl (start-is-clear p m e) .1) (number-cleared payloadBytes m (slotsOf p) k h)
+
+-- ## A send and then a receive of its number
+
+module _ (s : State) (p : Plan) (m : List ℕ) (q i t : ℕ) (payload : List ℕ) (n : Number) (at : Slot)
+    (sent : sendAnswer s p m q i t payload ≡ Sent.Stored n at) where
+  abbrev state : State
+  state = sendState s p m q i t payload
+
+  abbrev memory : List ℕ
+  memory = sendMemory s p m q i t payload
+
+  abbrev place : ℕ
+  place = slotFor p q (n .0)
+
+  clear : verdict (sendLines s p m q i t payload) ≡ Verdict.Clear
+  clear = send-is-clear s p m q i t payload n at sent
+
+  taken : SendTaken s p m q i t payload
+  taken = send-taken s p m q i t payload refl clear
+
+  -- the number that was answered is the running job's
+  pub answered : n ≡ message (runningNumber (queueAt p q) i t)
+  answered =
+      let o = sent-clear s p m q i t payload refl clear .0 in
+      let e : sendAnswer s p m q i t payload ≡ _ = ap (λ r. r .answer) o in
+      cc
+
+  number-fits : n .0 < 2 ^ 64
+  number-fits =
+      let v = usable (taken .ground .sound) q (taken .queue) .valid in
+      rw answered
+      (omega (
+        arith,
+        number-below (queueAt p q) v i (runningJob (queueAt p q) i t) (taken .sender),
+        upTo-fits (usable (taken .ground .sound) q (taken .queue)) (runningDeadline (queueAt p q) i t) (taken .deadline-within),
+      ))
+
+  memory-is : memory ≡ stored payloadBytes m place (n .0) payload
+  memory-is = rw answered (sent-clear s p m q i t payload refl clear .1)
+
+  -- what the slot then holds
+  pub sent-number : numberIn payloadBytes memory place ≡ n .0
+  sent-number =
+      rw memory-is
+      (number-same payloadBytes m payload place (n .0) (taken .whole) (slot-inside (taken .ground) q (taken .queue) (n .0)) number-fits)
+
+  pub sent-payload : payloadIn payloadBytes memory place ≡ payload
+  sent-payload =
+      rw memory-is (payload-same payloadBytes m payload place (n .0) (taken .whole) (slot-inside (taken .ground) q (taken .queue) (n .0)))
+
+  same-length : length memory ≡ length m
+  same-length = rw memory-is (length-stored payloadBytes m payload place (n .0) (taken .whole))
+
+  -- the view of the message, where the filler is of full length
+  pub sent-view : (filler : List ℕ) → length filler ≡ payloadBytes → viewOf (Received.Message n (slot place)) memory filler ≡ payload
+  unfolding viewOf
+  sent-view filler h =
+      let b : slotAt payloadBytes place + slotBytes ≤ length memory = rw same-length (slot-inside (taken .ground) q (taken .queue) (n .0)) in
+      rw (eq-eqb (length filler) payloadBytes h, le-leb (slotAt payloadBytes place + slotBytes) (length memory) b) sent-payload
+
+  module _ (u : ℕ) (within : u ≤ lastTick) (wanted : u < wantedUntil (queueAt p q) (receivingJob (queueAt p q) u))
+      (next : nextNumber state p q u ≡ n .0) (window : n .0 ≤ last (queueAt p q) (receivingJob (queueAt p q) u)) where
+    -- its deadline is not past the receiver's release, so the send was not after the receive
+    in-order : state .tick .0 ≤ u
+    in-order =
+        let v = usable (taken .ground .sound) q (taken .queue) .valid in
+        let o = ap (λ (r : Sending). r .state .tick .0) (sent-clear s p m q i t payload refl clear .0) in
+        let d = last-iff (queueAt p q) v (receivingJob (queueAt p q) u) i (runningJob (queueAt p q) i t) (taken .sender) .0 (rw answered at window) in
+        omega (arith, o, d, taken .running, div-mul-le-self u (receiverPeriod (queueAt p q)))
+
+    passed : Passed (receiveLines state p memory q u)
+    passed = (
+      rw (sound-iff p .1 (taken .ground .sound)),
+      (
+        le-ltb (length memory) (slotsOf p * slotBytes) (rw same-length (taken .ground .room)),
+        (
+          rw (lt-ltb q (p .queues) (taken .queue)),
+          (
+            le-ltb lastTick u within,
+            (
+              le-ltb u (state .tick .0) in-order,
+              (lt-leb (wantedUntil (queueAt p q) (receivingJob (queueAt p q) u)) u wanted, tt),
+            ),
+          ),
+        ),
+      ),
+    )
+
+    -- "a message answer holds the number and its slot counted from the start of memory"
+    pub sent-received : look state p memory q u ≡ Received.Message n (slot place)
+    unfolding look found
+    sent-received =
+        by-clear (receiveLines state p memory q u) Received.Refused (accepted state p memory q u) (passed-clear (receiveLines state p memory q u) passed)
+        ∙ rw (next, le-ltb (last (queueAt p q) (receivingJob (queueAt p q) u)) (n .0) window, eq-eqb _ _ sent-number)

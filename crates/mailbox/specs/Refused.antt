@@ -1,0 +1,88 @@
+-- Refusals of the running calls: each is given exactly where its line is the first that applies, and gives back state and memory.
+use mathlib.Core.Bool.{Bool, true, false, cond}
+use mathlib.Core.List.{List}
+use mathlib.Core.Logic.{_↔_}
+use mathlib.Core.Path.{_≡_, _∙_}
+use Prim.Native.Nat.{ℕ}
+use native.Mathlib.Omega.{arith}
+use lib.Dec.{ltb, eqb}
+use Rattle.plan.specs.Limits.{lastTick, payloadBytes}
+use Rattle.plan.specs.Plan.{queueAt}
+use Rattle.plan.specs.Refusals.{Line, judged}
+use Rattle.plan.specs.declared.Plan.{Plan}
+use Rattle.plan.specs.declared.refusal.Refusal.{Refusal}
+use Rattle.model.specs.Model.{last, senderOf}
+use Rattle.calendar.specs.Calendar.{message, slot}
+use Rattle.mailbox.specs.Calls.{startLines, startAnswer, startMemory, sendLines, sendAnswer, sendState, sendMemory, receiveLines, slotFor, receivingJob, nextNumber, look, found, receiveState}
+use Rattle.mailbox.specs.Slots.{numberIn}
+use Rattle.mailbox.specs.Outcomes.{accepted}
+use Rattle.plan.specs.Verdicts.{verdict, outcome, by-verdict, Stopped, verdict-stopped, stopped-verdict}
+use Rattle.plan.specs.declared.refusal.Verdict.{Verdict}
+use Rattle.mailbox.specs.declared.State.{State}
+use Rattle.mailbox.specs.declared.Started.{Started}
+use Rattle.mailbox.specs.declared.Sent.{Sent}
+use Rattle.mailbox.specs.declared.Received.{Received}
+
+-- of any answer whose refusals can be told apart from each other and from the good answer
+refusal-iff : {A : Type 0} (lines : List Line) (refused : Refusal → A) (good : A) (r : Refusal) →
+    ((x : Refusal) → refused x ≡ refused r → x ≡ r) → (good ≡ refused r → ⊥) → (judged lines refused good ≡ refused r) ↔ Stopped lines r
+refusal-iff {A} lines refused good r tells apart = (
+  λ e. verdict-stopped lines r (go (verdict lines) (rw (by-verdict lines refused good) at e)),
+  λ f. by-verdict lines refused good ∙ rw (stopped-verdict lines r f),
+)
+  where
+    go : (v : Verdict) → outcome v refused good ≡ refused r → v ≡ Verdict.Refused r
+    go Verdict.Clear e = absurd (apart e)
+    go (Verdict.Refused x) e = rw (tells x e)
+
+pub start-refused : (p : Plan) (m : List ℕ) (r : Refusal) → (startAnswer p m ≡ Started.Refused r) ↔ Stopped (startLines p m) r
+unfolding startAnswer
+start-refused p m r =
+    refusal-iff (startLines p m) Started.Refused Started.Ready r (λ x e. cc) (λ e. let z : _≡_ {A = ℕ} 0 1 = cc in omega arith)
+
+pub send-refused : (s : State) (p : Plan) (m : List ℕ) (q i t : ℕ) (payload : List ℕ) (r : Refusal) →
+    (sendAnswer s p m q i t payload ≡ Sent.Refused r) ↔ Stopped (sendLines s p m q i t payload) r
+unfolding sendAnswer
+send-refused s p m q i t payload r =
+    refusal-iff (sendLines s p m q i t payload) Sent.Refused _ r (λ x e. cc) (λ e. let z : _≡_ {A = ℕ} 0 1 = cc in omega arith)
+
+found-no-refusal : (p : Plan) (m : List ℕ) (q n : ℕ) (r : Refusal) → found p m q n ≡ Received.Refused r → ⊥
+unfolding found
+found-no-refusal p m q n r = go (eqb (numberIn payloadBytes m (slotFor p q n)) n)
+  where
+    go : (b : Bool) → cond b (Received.Message (message n) (slot (slotFor p q n))) (Received.Gap (message n) (senderOf (queueAt p q) lastTick n)) ≡ Received.Refused r → ⊥
+    go true e = let z : _≡_ {A = ℕ} 0 1 = cc in omega arith
+    go false e = let z : _≡_ {A = ℕ} 0 1 = cc in omega arith
+
+read-no-refusal : (b : Bool) (a : Received) (r : Refusal) → (a ≡ Received.Refused r → ⊥) → cond b Received.Empty a ≡ Received.Refused r → ⊥
+read-no-refusal true a r apart e = let z : _≡_ {A = ℕ} 0 1 = cc in omega arith
+read-no-refusal false a r apart e = apart e
+
+pub receive-refused : (s : State) (p : Plan) (m : List ℕ) (q t : ℕ) (r : Refusal) →
+    (look s p m q t ≡ Received.Refused r) ↔ Stopped (receiveLines s p m q t) r
+unfolding look
+receive-refused s p m q t r =
+    refusal-iff (receiveLines s p m q t) Received.Refused (accepted s p m q t) r (λ x e. cc)
+    (read-no-refusal (ltb (last (queueAt p q) (receivingJob (queueAt p q) t)) (nextNumber s p q t)) _ r
+    (found-no-refusal p m q (nextNumber s p q t) r))
+
+-- ## What a refusal leaves as it was
+
+kept : {A : Type 0} (lines : List Line) (was new : A) (r : Refusal) → Stopped lines r → judged lines (λ r. was) new ≡ was
+kept lines was new r f = by-verdict lines (λ r. was) new ∙ rw (stopped-verdict lines r f)
+
+pub start-keeps : (p : Plan) (m : List ℕ) (r : Refusal) → startAnswer p m ≡ Started.Refused r → startMemory p m ≡ m
+unfolding startMemory
+start-keeps p m r e = kept (startLines p m) m _ r (start-refused p m r .0 e)
+
+pub send-keeps : (s : State) (p : Plan) (m : List ℕ) (q i t : ℕ) (payload : List ℕ) (r : Refusal) →
+    sendAnswer s p m q i t payload ≡ Sent.Refused r → (sendState s p m q i t payload ≡ s) × (sendMemory s p m q i t payload ≡ m)
+unfolding sendState sendMemory
+send-keeps s p m q i t payload r e =
+    let f = send-refused s p m q i t payload r .0 e in
+    let lines = sendLines s p m q i t payload in
+    (kept lines s _ r f, kept lines m _ r f)
+
+pub receive-keeps : (s : State) (p : Plan) (m : List ℕ) (q t : ℕ) (r : Refusal) → look s p m q t ≡ Received.Refused r → receiveState s p m q t ≡ s
+unfolding receiveState
+receive-keeps s p m q t r e = rw e

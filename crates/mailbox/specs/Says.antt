@@ -1,0 +1,83 @@
+-- What the running calls answer in document 01's numbers: the code by which the console names each kind of answer, and its values.
+-- A refusal's values are the number of its line in the table and its row, which is 0 in all running calls.
+use Prim.Native.Nat.{ℕ, _*_}
+use mathlib.Core.Bool.{cond, not, _||_}
+use mathlib.Core.List.{List, [], _∷_}
+use mathlib.Core.Path.{_≡_}
+use lib.Dec.{leb, ltb, eqb}
+use lib.ListN.{length}
+use Rattle.model.specs.Model.{wantedUntil}
+use Rattle.plan.specs.Limits.{lastTick, payloadBytes, slotBytes}
+use Rattle.plan.specs.Plan.{queueAt, slotsOf}
+use Rattle.plan.specs.Refusals.{numberOf}
+use Rattle.plan.specs.Rules.{soundPlan, connected}
+use Rattle.plan.specs.declared.Plan.{Plan}
+use Rattle.plan.specs.declared.refusal.Refusal.{Refusal}
+use Rattle.mailbox.specs.Calls.{startLines, startAnswer, sendLines, runningDeadline, runningNumber, slotIn, sentAlready, sendAnswer, receiveLines, receivingJob, look}
+use Rattle.plan.specs.Verdicts.{judged-map}
+use Rattle.mailbox.specs.Outcomes.{accepted}
+use Rattle.mailbox.specs.declared.State.{State}
+use Rattle.mailbox.specs.declared.Started.{Started}
+use Rattle.mailbox.specs.declared.Sent.{Sent}
+use Rattle.mailbox.specs.declared.Received.{Received}
+
+abbrev pub Said : Type 0
+Said = ℕ × List ℕ
+
+abbrev pub refusedSays : Refusal → Said
+refusedSays r = (0x7f, numberOf (r .rule) ∷ r .row ∷ [])
+
+abbrev pub startedSays : Started → Said
+startedSays Started.Ready = (0x81, [])
+startedSays (Started.Refused r) = refusedSays r
+
+-- number, and slot within its queue
+abbrev pub sentSays : Sent → Said
+sentSays (Sent.Stored n at) = (0x84, n .0 ∷ at .0 ∷ [])
+sentSays (Sent.Refused r) = refusedSays r
+
+-- a message's number, and slot from the start of memory; a gap's number and sender
+abbrev pub receivedSays : Received → Said
+receivedSays (Received.Message n at) = (0x85, n .0 ∷ at .0 ∷ [])
+receivedSays (Received.Gap n row) = (0x86, n .0 ∷ row ∷ [])
+receivedSays Received.Empty = (0x87, [])
+receivedSays (Received.Refused r) = refusedSays r
+
+abbrev pub no : ℕ → Said
+no line = (0x7f, line ∷ 0 ∷ [])
+
+-- "Running calls test 7, 8, 14, 9, 11, 10, 12, 13, as far as each applies"
+pub start-says : (p : Plan) (m : List ℕ) →
+    startedSays (startAnswer p m)
+    ≡ cond (not (soundPlan p)) (no 7)
+    (cond (ltb (length m) (slotsOf p * slotBytes)) (no 8)
+    (0x81, []))
+unfolding startAnswer
+start-says p m = judged-map startedSays (startLines p m) Started.Refused Started.Ready
+
+pub send-says : (s : State) (p : Plan) (m : List ℕ) (q i t : ℕ) (payload : List ℕ) →
+    let n = runningNumber (queueAt p q) i t in
+    sentSays (sendAnswer s p m q i t payload)
+    ≡ cond (not (soundPlan p)) (no 7)
+    (cond (ltb (length m) (slotsOf p * slotBytes)) (no 8)
+    (cond (not (eqb (length payload) payloadBytes)) (no 14)
+    (cond (not (connected p q i)) (no 9)
+    (cond (ltb lastTick t || ltb lastTick (runningDeadline (queueAt p q) i t)) (no 11)
+    (cond (ltb t (s .tick .0)) (no 10)
+    (cond (leb (runningDeadline (queueAt p q) i t) t) (no 12)
+    (cond (sentAlready s p q i t) (no 13)
+    (0x84, n ∷ slotIn p q n ∷ []))))))))
+unfolding sendAnswer
+send-says s p m q i t payload = judged-map sentSays (sendLines s p m q i t payload) Sent.Refused _
+
+pub receive-says : (s : State) (p : Plan) (m : List ℕ) (q t : ℕ) →
+    receivedSays (look s p m q t)
+    ≡ cond (not (soundPlan p)) (no 7)
+    (cond (ltb (length m) (slotsOf p * slotBytes)) (no 8)
+    (cond (not (ltb q (p .queues))) (no 9)
+    (cond (ltb lastTick t) (no 11)
+    (cond (ltb t (s .tick .0)) (no 10)
+    (cond (leb (wantedUntil (queueAt p q) (receivingJob (queueAt p q) t)) t) (no 12)
+    (receivedSays (accepted s p m q t)))))))
+unfolding look
+receive-says s p m q t = judged-map receivedSays (receiveLines s p m q t) Received.Refused (accepted s p m q t)

@@ -1,0 +1,59 @@
+// The mailbox: the running calls start, send and receive, over a plan, a state and slots in lent memory, and the view of an answer's bytes.
+// Each call tests what it is handed and answers; a refused call gives back state and memory as they were.
+mod judge; // judge.rt: the tests of the running calls
+mod places; // places.rt: which slot is a message's
+mod slots; // slots.rt: a message in its slot's bytes
+pub mod start; // start.rt: the fresh state, and start
+pub mod send; // send.rt: send
+pub mod receive; // receive.rt: receive, a look and a step on
+pub mod view; // view.rt: the bytes that a receive answer is about
+
+use calendar::Number;
+use calendar::Slot;
+use calendar::Tick;
+use plan::Plan;
+use plan::refusal::Refusal;
+
+// What the calls remember from one to the next. It is handed in and comes back by value.
+pub struct State {
+    // the tick of the last accepted send or receive
+    pub tick: Tick,
+    // of each queue and task, at queue * TASKS + task: the job after the last one sent, 0 for none
+    pub sent: [u64; Plan::CELLS],
+    // of each queue: the next number to read, 0 where none has been read
+    pub reading: [u64; Plan::QUEUES],
+}
+
+pub enum Started {
+    Ready,
+    Refused(Refusal),
+}
+
+// The slot is counted within its queue.
+pub enum Sent {
+    Stored(Number, Slot),
+    Refused(Refusal),
+}
+
+// A message's slot is counted from the start of memory; a gap names the row of the sender that sent nothing.
+pub enum Received {
+    Message(Number, Slot),
+    Gap(Number, usize),
+    Empty,
+    Refused(Refusal),
+}
+
+pub struct Starting {
+    pub answer: Started,
+    pub state: State,
+}
+
+pub struct Sending {
+    pub answer: Sent,
+    pub state: State,
+}
+
+pub struct Receiving {
+    pub answer: Received,
+    pub state: State,
+}
