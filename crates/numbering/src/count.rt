@@ -5,9 +5,10 @@ use calendar::count;
 use calendar::has_deadline;
 use plan::Plan;
 ghost use mathlib.Core.Path.{_≡_};
+ghost use mathlib.Core.Bool.{_&&_};
 ghost use Prim.Native.Nat.{_<_, _≤_};
 ghost use Rattle.common.specs.Totals.{only};
-ghost use Rattle.model.specs.Model.{count, upTo, dueAt, precedes, rowFollowers, followers};
+ghost use Rattle.model.specs.Model.{count, hasDeadline, upTo, dueAt, precedes, followers};
 ghost use Rattle.plan.specs.Limits.{lastTick};
 ghost use Rattle.plan.specs.Plan.{queueAt, Usable};
 
@@ -32,16 +33,29 @@ pub fn up_to(plan: Plan, queue: usize, at: Tick) -> u64
     sum
 }
 
-// Whether a task sends into the queue and has a deadline at a tick.
+// Whether a task that sends, or does not, has a deadline at a tick.
+fn due(on: bool, period: u64, deadline: u64, at: Tick) -> bool
+    requires { ⌜ (1 ≤ period) × (1 ≤ deadline) ⌝ }
+    ensures { λ r. ⌜ r ≡ (on && hasDeadline period deadline (at .0)) ⌝ }
+{
+    if on {
+        has_deadline(period, deadline, at)
+    } else {
+        false
+    }
+}
+
+// The same of a row of the plan.
 pub fn due_at(plan: Plan, queue: usize, at: Tick, row: usize) -> bool
     requires { ⌜ Usable plan queue × (row < plan .tasks) ⌝ }
     ensures { λ r. ⌜ r ≡ dueAt (queueAt plan queue) (at .0) row ⌝ }
 {
-    if plan.sends[queue * Plan::TASKS + row] {
-        has_deadline(plan.period[row], plan.deadline[row], at)
-    } else {
-        false
-    }
+    due(
+        plan.sends[queue * Plan::TASKS + row],
+        plan.period[row],
+        plan.deadline[row],
+        at,
+    )
 }
 
 // Of two messages with equal deadlines, whether the task's goes before the row's.
@@ -51,13 +65,13 @@ fn precedes(plan: Plan, queue: usize, task: usize, row: usize) -> bool
     task < row
 }
 
-// 1 where the row's message at this tick goes after the task's, else 0.
-fn row_followers(plan: Plan, queue: usize, at: Tick, task: usize, row: usize) -> u64
-    requires { ⌜ Usable plan queue × (row < plan .tasks) ⌝ }
-    ensures { λ r. ⌜ r ≡ rowFollowers (queueAt plan queue) (at .0) task row ⌝ }
+// 1 where a row whose message would go after the task's has one at this tick, else 0.
+fn row_followers(after: bool, on: bool, period: u64, deadline: u64, at: Tick) -> u64
+    requires { ⌜ (1 ≤ period) × (1 ≤ deadline) ⌝ }
+    ensures { λ r. ⌜ r ≡ only (on && hasDeadline period deadline (at .0)) (only after 1) ⌝ }
 {
-    if precedes(plan, queue, task, row) {
-        if due_at(plan, queue, at, row) { 1 } else { 0 }
+    if after {
+        if due(on, period, deadline, at) { 1 } else { 0 }
     } else {
         0
     }
@@ -68,9 +82,17 @@ pub fn followers(plan: Plan, queue: usize, at: Tick, task: usize) -> u64
     requires { ⌜ Usable plan queue ⌝ }
     ensures { λ r. ⌜ r ≡ followers (queueAt plan queue) (at .0) task ⌝ }
 {
+    let base = queue * Plan::TASKS;
     let mut sum: u64 = 0;
     for row in 0..plan.tasks {
-        sum += row_followers(plan, queue, at, task, row);
+        let after = precedes(plan, queue, task, row);
+        sum += row_followers(
+            after,
+            plan.sends[base + row],
+            plan.period[row],
+            plan.deadline[row],
+            at,
+        );
     }
     sum
 }

@@ -1,0 +1,13 @@
+use native.Mathlib.Omega.{arith}
+use lib.ListN.{length-take}
+use borrow.Author.Needs.{needs}
+use Rattle.trial.proofs.line_answered.Statement.{statement}
+use Rattle.trial.proofs.line_answered.Tie as tie
+
+slice-aggregate-line-taken : tie.Need-slice-aggregate-line-taken
+slice-aggregate-line-taken c = simp length-take (omega arith)
+
+pub line-answered-spec : {M : Type 1} → statement M
+line-answered-spec =
+    tie.close
+    (tie.spec (λ c. search needs) slice-aggregate-line-taken (λ c κs. search needs) (λ c. search needs) (λ c. search needs))
