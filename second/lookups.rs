@@ -11,7 +11,7 @@
 // zeros and every lookup prints `refused 7`. Refusals come in the order 7, 9, then 11 or 15.
 // All numbers are decimal and up to 2^64 - 1.
 
-use crate::model::{plan, Plan, PlannedQueue, Queue, Table, Task, LAST_TICK};
+use crate::model::{plan, Plan, PlannedQueue, Queue, Refusal, Table, Task, LAST_TICK};
 
 /// The answers to a text, or what is wrong in it.
 pub fn answers(text: &str) -> Result<String, String> {
@@ -30,7 +30,7 @@ pub fn answers(text: &str) -> Result<String, String> {
                 table.queues.push(queue);
                 None
             }),
-            ["plan"] => Ok(Some(planned(&table))),
+            ["plan"] => Ok(Some(planned(&plan(&table)))),
             [name, values @ ..] => look_up(&table, name, values).map(Some),
         };
         match answer {
@@ -42,8 +42,8 @@ pub fn answers(text: &str) -> Result<String, String> {
     Ok(output)
 }
 
-fn planned(table: &Table) -> String {
-    match plan(table) {
+pub fn planned(made: &Result<Plan, Refusal>) -> String {
+    match made {
         Ok(plan) => {
             let sizes: Vec<String> = plan.queues.iter().map(|queue| queue.size.to_string()).collect();
             format!("sizes {}", sizes.join(" "))
@@ -112,7 +112,7 @@ fn window(plan: Option<Plan>, queue: u64, job: u64) -> Result<String, u8> {
     Ok(format!("{first} {last}"))
 }
 
-fn read_tasks(words: &[&str]) -> Result<Vec<Task>, String> {
+pub fn read_tasks(words: &[&str]) -> Result<Vec<Task>, String> {
     words
         .iter()
         .map(|word| {
@@ -122,7 +122,7 @@ fn read_tasks(words: &[&str]) -> Result<Vec<Task>, String> {
         .collect()
 }
 
-fn read_queue(words: &[&str]) -> Result<Queue, String> {
+pub fn read_queue(words: &[&str]) -> Result<Queue, String> {
     let rows: Vec<u64> = words.iter().map(|word| read_number(word)).collect::<Result<_, _>>()?;
     let (receiver, senders) = rows.split_first().ok_or("a queue needs a receiver".to_string())?;
     let mut senders: Vec<usize> = senders.iter().map(|&row| row as usize).collect();
@@ -131,6 +131,6 @@ fn read_queue(words: &[&str]) -> Result<Queue, String> {
     Ok(Queue { receiver: *receiver as usize, senders })
 }
 
-fn read_number(word: &str) -> Result<u64, String> {
+pub fn read_number(word: &str) -> Result<u64, String> {
     word.parse().map_err(|_| format!("no number: {word}"))
 }

@@ -15,7 +15,7 @@ use Rattle.calendar.specs.Calendar.{message}
 use Rattle.model.specs.Model.{Queue, Valid, Sender, receiverPeriod, releaseOf, deadlineOf, number, first, last, jobFor, wantedFor, wantedUntil, outdatedAt, senderOf, hyperperiod}
 use Rattle.model.specs.Order.{period-pos}
 use Rattle.model.specs.Number.{number-iff, number-below, number-less}
-use Rattle.model.specs.Outdating.{wanted-fits, job-from}
+use Rattle.model.specs.Outdating.{wanted-pos, wanted-fits, job-from}
 use Rattle.model.specs.Window.{window-own}
 use Rattle.model.specs.Multiple.{hyperperiod-common}
 use Rattle.plan.specs.Limits.{taskLimit, queueLimit, cellLimit, lastTick, longestHyperperiod, payloadBytes}
@@ -46,11 +46,6 @@ pub record Lost (p : Plan) (q : ℕ) : Type 0 where
   pub told : receiveSays p (world p memory calls) q t ≡ Received.Gap (message n) row
 
 -- ## Jobs and ticks
-
--- a receiver's job has at least one tick to read in
-wanted-pos : (Q : Queue) → Valid Q → 1 ≤ wantedFor Q
-unfolding wantedFor
-wanted-pos Q v = v .deadline-pos (Q .receiver) (v .receiver-row)
 
 outdated-is : (Q : Queue) (d : ℕ) → outdatedAt Q d ≡ wantedUntil Q (jobFor Q d)
 unfolding outdatedAt

@@ -11,6 +11,8 @@ use borrow.Author.Tests.{ltb-true, ltb-false, leb-false, eqb-true, not-false}
 use Rattle.common.specs.Totals.{sum-next}
 use Rattle.model.specs.Model.{Sender, receiverPeriod, upTo, last, wantedFor, wantedUntil}
 use Rattle.model.specs.Number.{upTo-mono}
+use Rattle.model.specs.Order.{period-pos}
+use Rattle.model.specs.Outdating.{wanted-fits}
 use Rattle.plan.specs.Limits.{taskLimit, longestPeriod, lastTick, payloadBytes, slotBytes}
 use Rattle.plan.specs.Plan.{queueAt, sizeAt, placeAt, slotsOf, Usable}
 use Rattle.plan.specs.Facts.{connected-iff}
@@ -55,10 +57,9 @@ clear-usable p m q e h l = usable (ground-clear p m e h .sound) q l
 
 -- a usable queue's receiver
 pub receiver-fits : {p : Plan} {q : ℕ} → Usable p q → (1 ≤ receiverPeriod (queueAt p q)) × (wantedFor (queueAt p q) ≤ longestPeriod)
-unfolding wantedFor
 receiver-fits {p} {q} u =
     let r = u .valid .receiver-row in
-    (omega (arith, u .valid .deadline-pos _ r, u .valid .deadline-fits _ r), omega (arith, u .valid .deadline-fits _ r, u .periods-fit _ r))
+    (period-pos (queueAt p q) (u .valid) _ r, omega (arith, wanted-fits (queueAt p q) (u .valid), u .periods-fit _ r))
 
 -- the last queue's slots end the plan's
 pub slots-end : {p : Plan} → Sound p → placeAt p (p .queues - 1) + sizeAt p (p .queues - 1) ≡ slotsOf p

@@ -1,5 +1,5 @@
--- When a message is outdated. `outdatedAt` and `horizon` are known outside only by the laws of this file, and `wantedFor` only by `wanted-fits`:
--- a new length of `wantedFor` proves `wanted-fits` again, and nothing else.
+-- When a message is outdated. `outdatedAt` and `horizon` are known outside only by the laws of this file, and `wantedFor` only by
+-- `wanted-pos` and `wanted-fits`: a new length of it proves these two again, and nothing else.
 use Prim.Native.Nat.{ℕ, suc, _+_, _-_, _*_, _/_, _<_, _≤_}
 use native.Mathlib.Omega.{arith}
 use native.Mathlib.Nat.{le-div-iff-mul-le, mul-le-mul-right, lt-of-mul-lt-mul-right, div-mul-le-self, lt-div-mul-add, add-mul-div-right}
@@ -9,7 +9,11 @@ use Rattle.model.specs.Model.{Queue, Valid, receiverPeriod, jobFor, outd
 use Rattle.common.specs.Tests.{lt-or-le}
 
 module _ (q : Queue) (v : Valid q) where
-  -- all that is asked of `wantedFor`
+  -- all that is asked of `wantedFor`: a receiver's job has at least one tick to read in, and none after the next release
+  pub wanted-pos : 1 ≤ wantedFor q
+  unfolding wantedFor
+  wanted-pos = omega (arith, v .deadline-pos (q .receiver) (v .receiver-row), v .deadline-fits (q .receiver) (v .receiver-row))
+
   pub wanted-fits : wantedFor q ≤ receiverPeriod q
   unfolding wantedFor
   wanted-fits = omega (arith, v .deadline-fits (q .receiver) (v .receiver-row))
