@@ -1,0 +1,44 @@
+use Prim.Native.Nat.{_-_, _/_, _^_, _≤_}
+use native.Mathlib.Omega.{arith}
+use mathlib.Core.Path.{_≡_}
+use borrow.Author.Needs.{needs}
+use lib.ListN.{length, take}
+use Rattle.common.specs.Table.{table, table-none, table-more, table-all}
+use Rattle.console.specs.Desk.{bitOf}
+use Rattle.console.specs.Turns.{half}
+use Rattle.console.proofs.squares.row_of.Statement.{statement}
+use Rattle.console.proofs.squares.row_of.Tie as tie
+
+abbrev Inv-loop : tie.InvT-loop
+Inv-loop mask row₀ rest₀ i₀ row rest i = (i ≤ 16) × (length row ≡ 16) × (take i row ≡ table (bitOf mask) i) × (rest ≡ mask / 2 ^ i)
+
+abbrev μ-loop : tie.MeasureT-loop
+μ-loop mask row₀ rest₀ i₀ row rest i = 16 - i
+
+loop-holds : tie.Need-loop-holds Inv-loop μ-loop
+loop-holds c = (search needs, search needs, search (needs, table-none), omega arith)
+
+loop-again : tie.Need-loop-again Inv-loop μ-loop
+loop-again c =
+    let l = c .before .loop in
+    let mask = c .before .before .args .mask in
+    (search needs, search needs, rw (l .inv .3) (table-more (bitOf mask) (l .row) (l .i) (search needs) (l .inv .2)), half mask (l .rest) (l .i) (l .inv .3))
+
+returns : tie.Need-returns Inv-loop μ-loop
+returns c =
+    let l = c .before .loop in
+    let e : l .i ≡ 16 = search needs in
+    table-all _ (l .row) 16 (l .inv .1) (rw e at (l .inv .2))
+
+pub row-of-spec : {M : Type 1} → statement M
+row-of-spec =
+    tie.close
+    (tie.spec
+    Inv-loop
+    μ-loop
+    loop-holds
+    (λ c. search needs)
+    (λ c. search needs)
+    (λ c. search needs)
+    loop-again
+    returns)

@@ -1,0 +1,11 @@
+use mathlib.Core.Path.{_≡_, refl, sym, ap, _∙_}
+use Rattle.console.specs.Turns.{written}
+use borrow.Author.Needs.{needs}
+use Rattle.console.proofs.table.refuse.Statement.{statement}
+use Rattle.console.proofs.table.refuse.Tie as tie
+
+returns : tie.Need-returns
+returns c = λ m. written _ m _ _ _ _ (c .before .before .write-refusal .ensures)
+
+pub refuse-spec : {M : Type 1} → statement M
+refuse-spec = tie.close (tie.spec (λ c κs. search needs) (λ c. search needs) returns)

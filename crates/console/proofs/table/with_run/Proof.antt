@@ -1,0 +1,11 @@
+use mathlib.Core.Path.{_≡_, refl, sym, ap, _∙_}
+use Rattle.console.specs.Desk.{withRun}
+use Rattle.console.proofs.table.with_run.Statement.{statement}
+use Rattle.console.proofs.table.with_run.Tie as tie
+
+returns : tie.Need-returns
+unfolding withRun
+returns c = refl
+
+pub with-run-spec : {M : Type 1} → statement M
+with-run-spec = tie.close (tie.spec returns)

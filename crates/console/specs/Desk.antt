@@ -1,0 +1,211 @@
+-- The console's desk, line by line: what a line does to the desk and to the lent memory, and the line that answers it. A line is any
+-- list of bytes. Everything below is document 01's paragraph "The console".
+use Prim.Native.Nat.{ℕ, _+_, _/_, _%_, _^_}
+use mathlib.Core.Bool.{Bool, true, false, cond}
+use mathlib.Core.List.{List, []}
+use mathlib.Core.Path.{_≡_}
+use lib.Dec.{leb, ltb, eqb}
+use lib.ListN.{length, getD, set, replicate}
+use lib.Seq.{sets}
+use Rattle.common.specs.Table.{table}
+use Rattle.calendar.specs.declared.Tick.{Tick}
+use Rattle.plan.specs.Limits.{taskLimit, queueLimit, payloadBytes}
+use Rattle.plan.specs.Plan.{zeros}
+use Rattle.plan.specs.declared.Plan.{Plan}
+use Rattle.plan.specs.declared.refusal.Refusal.{Refusal}
+use Rattle.planning.specs.Planning.{planOf}
+use Rattle.planning.specs.declared.Planned.{Planned}
+use Rattle.planning.specs.declared.Answer.{Answer}
+use Rattle.mailbox.specs.Calls.{fresh, startAnswer, startMemory, sendAnswer, sendState, sendMemory, look, receiveState}
+use Rattle.mailbox.specs.View.{viewOf}
+use Rattle.mailbox.specs.declared.State.{State}
+use Rattle.mailbox.specs.declared.Started.{Started}
+use Rattle.mailbox.specs.declared.Sent.{Sent}
+use Rattle.mailbox.specs.declared.Received.{Received}
+use Rattle.frames.specs.Hex.{isLine, bytesIn}
+use Rattle.frames.specs.Frames.{frameOf, payloadIn}
+use Rattle.frames.specs.Answers.{longestAnswer, sizesBytes, storedBytes, messageBytes, gapBytes, emptyBytes, refusalBytes, badBytes, lineOf}
+use Rattle.frames.specs.declared.frame.Frame.{Frame}
+use Rattle.console.specs.declared.Desk.{Desk}
+use Rattle.console.specs.declared.Stepped.{Stepped}
+
+-- what a line comes to: the desk and the memory after it, and the bytes of the line that answers it, none where it has no answer
+pub record Turn : Type 0 where
+  pub desk : Desk
+  pub memory : List ℕ
+  pub answer : List ℕ
+
+abbrev pub silent : Desk → List ℕ → Turn
+silent d m = record { desk = d; memory = m; answer = [] }
+
+abbrev pub says : Desk → List ℕ → List ℕ → Turn
+says d m bytes = record { desk = d; memory = m; answer = lineOf bytes }
+
+-- "is answered 7ff000", and nothing is changed
+abbrev pub bad : Desk → List ℕ → Turn
+bad d m = says d m badBytes
+
+-- an empty table, and nothing started
+abbrev pub newDesk : Desk
+newDesk = record {
+  tasks = 0;
+  queues = 0;
+  period = replicate taskLimit 0;
+  deadline = replicate taskLimit 0;
+  receiver = replicate queueLimit 0;
+  senders = replicate queueLimit 0;
+  running = false;
+  plan = zeros;
+  state = fresh;
+}
+
+-- ## 01 and 02: one row more, which is not answered. "01 to 03 after an accepted 03, a row beyond 16 and 8 .. is answered 7ff000"
+
+unfoldable pub rowTurn : Desk → List ℕ → Bool → Desk → Turn
+rowTurn d m full more = cond (d .running) (bad d m) (cond full (bad d m) (silent more m))
+
+unfoldable pub withTask : Desk → ℕ → ℕ → Desk
+withTask d period deadline = record {
+  tasks = d .tasks + 1;
+  queues = d .queues;
+  period = set (d .period) (d .tasks) period;
+  deadline = set (d .deadline) (d .tasks) deadline;
+  receiver = d .receiver;
+  senders = d .senders;
+  running = d .running;
+  plan = d .plan;
+  state = d .state;
+}
+
+abbrev pub taskTurn : Desk → List ℕ → ℕ → ℕ → Turn
+taskTurn d m period deadline = rowTurn d m (leb taskLimit (d .tasks)) (withTask d period deadline)
+
+unfoldable pub withQueue : Desk → ℕ → ℕ → Desk
+withQueue d receiver mask = record {
+  tasks = d .tasks;
+  queues = d .queues + 1;
+  period = d .period;
+  deadline = d .deadline;
+  receiver = set (d .receiver) (d .queues) receiver;
+  senders = set (d .senders) (d .queues) mask;
+  running = d .running;
+  plan = d .plan;
+  state = d .state;
+}
+
+abbrev pub queueTurn : Desk → List ℕ → ℕ → ℕ → Turn
+queueTurn d m receiver mask = rowTurn d m (leb queueLimit (d .queues)) (withQueue d receiver mask)
+
+-- ## 03: "plan and start"
+
+-- "sender mask (2, bit i for task i)"
+abbrev pub bitOf : ℕ → ℕ → Bool
+bitOf mask i = eqb (mask / 2 ^ i % 2) 1
+
+abbrev pub rowOf : ℕ → List Bool
+rowOf mask = table (bitOf mask) taskLimit
+
+abbrev pub squareOf : List ℕ → List (List Bool)
+squareOf masks = table (λ q. rowOf (getD masks q 0)) queueLimit
+
+unfoldable pub planned : Desk → Planned
+planned d = planOf (d .tasks) (d .queues) (d .period) (d .deadline) (d .receiver) (squareOf (d .senders))
+
+-- "7f, refusal (1), row (1)", and "A refused 03 empties the table"
+abbrev pub refusedGo : List ℕ → Refusal → Turn
+refusedGo m r = says newDesk m (refusalBytes r)
+
+unfoldable pub withRun : Desk → Plan → State → Desk
+withRun d p s = record {
+  tasks = d .tasks;
+  queues = d .queues;
+  period = d .period;
+  deadline = d .deadline;
+  receiver = d .receiver;
+  senders = d .senders;
+  running = true;
+  plan = p;
+  state = s;
+}
+
+-- "81 and each size (2)"
+abbrev pub startTurn : Desk → Plan → List ℕ → Started → Turn
+startTurn d p m Started.Ready = says (withRun d p fresh) (startMemory p m) (sizesBytes (p .size) (p .queues))
+startTurn d p m (Started.Refused r) = refusedGo m r
+
+abbrev pub planTurn : Desk → Plan → List ℕ → Answer → Turn
+planTurn d p m Answer.Accepted = startTurn d p m (startAnswer p m)
+planTurn d p m (Answer.Refused r) = refusedGo m r
+
+unfoldable pub goTurn : Desk → List ℕ → Turn
+goTurn d m = cond (d .running) (bad d m) (planTurn d (planned d .plan) m (planned d .answer))
+
+-- ## 04 and 05: the calls on the desk's own plan and state. "04 and 05 before an accepted 03, is answered 7ff000"
+
+unfoldable pub withState : Desk → State → Desk
+withState d s = record {
+  tasks = d .tasks;
+  queues = d .queues;
+  period = d .period;
+  deadline = d .deadline;
+  receiver = d .receiver;
+  senders = d .senders;
+  running = d .running;
+  plan = d .plan;
+  state = s;
+}
+
+abbrev pub sentBytes : Sent → List ℕ
+sentBytes (Sent.Stored n s) = storedBytes (n .0) (s .0)
+sentBytes (Sent.Refused r) = refusalBytes r
+
+unfoldable pub sendTurn : Desk → List ℕ → ℕ → ℕ → Tick → List ℕ → Turn
+sendTurn d m q i t payload =
+    cond (d .running)
+    (says (withState d (sendState (d .state) (d .plan) m q i (t .0) payload)) (sendMemory (d .state) (d .plan) m q i (t .0) payload)
+    (sentBytes (sendAnswer (d .state) (d .plan) m q i (t .0) payload)))
+    (bad d m)
+
+-- the payload of a message is what its view shows; the filler's bytes are never written
+abbrev pub filler : List ℕ
+filler = replicate payloadBytes 0
+
+abbrev pub receivedBytes : List ℕ → Received → List ℕ
+receivedBytes m (Received.Message n s) = messageBytes (n .0) (viewOf (Received.Message n s) m filler)
+receivedBytes m (Received.Gap n i) = gapBytes (n .0) i
+receivedBytes m Received.Empty = emptyBytes
+receivedBytes m (Received.Refused r) = refusalBytes r
+
+unfoldable pub receiveTurn : Desk → List ℕ → ℕ → Tick → Turn
+receiveTurn d m q t =
+    cond (d .running)
+    (says (withState d (receiveState (d .state) (d .plan) m q (t .0))) m (receivedBytes m (look (d .state) (d .plan) m q (t .0))))
+    (bad d m)
+
+-- ## A frame, a line, and a step
+
+abbrev pub frameTurn : Desk → List ℕ → List ℕ → Frame → Turn
+frameTurn d m payload (Frame.Task period deadline) = taskTurn d m period deadline
+frameTurn d m payload (Frame.Queue receiver mask) = queueTurn d m receiver mask
+frameTurn d m payload Frame.Go = goTurn d m
+frameTurn d m payload (Frame.Send q i t) = sendTurn d m q i t payload
+frameTurn d m payload (Frame.Receive q t) = receiveTurn d m q t
+frameTurn d m payload Frame.Bad = bad d m
+
+unfoldable pub bytesTurn : Desk → List ℕ → List ℕ → Turn
+bytesTurn d m bytes = frameTurn d m (payloadIn bytes) (frameOf bytes)
+
+-- "A line that is none of these or over 100 digits .. is answered 7ff000"
+unfoldable pub lineTurn : Desk → List ℕ → List ℕ → Turn
+lineTurn d m line = cond (isLine line) (bytesTurn d m (bytesIn line)) (bad d m)
+
+-- nothing is done where the buffer for the answer is too short
+unfoldable pub stepOf : Desk → List ℕ → List ℕ → List ℕ → Turn
+stepOf d m line out = cond (ltb (length out) longestAnswer) (silent d m) (lineTurn d m line)
+
+-- what a function that takes such a turn hands back, and what it leaves in the memory and in the buffer
+abbrev pub stepped : Turn → Stepped
+stepped t = record { desk = t .desk; written = length (t .answer) }
+
+abbrev pub Takes : Turn → List ℕ → Stepped → List ℕ → List ℕ → Type 0
+Takes t out r memory after = (r ≡ stepped t) × (memory ≡ t .memory) × (after ≡ sets out 0 (t .answer))

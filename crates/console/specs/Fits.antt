@@ -1,0 +1,119 @@
+-- No answer of the console is longer than 64 bytes, and a line of over 100 bytes is answered as its first 101 are.
+use Prim.Native.Nat.{ℕ, _<_, _≤_}
+use native.Mathlib.Omega.{arith}
+use mathlib.Core.Bool.{Bool, true, false, cond}
+use mathlib.Core.List.{List}
+use mathlib.Core.Logic.{⊎-elim}
+use mathlib.Core.Path.{_≡_, refl, sym, _∙_}
+use lib.ListN.{length, take, length-append, length-take}
+use lib.Seq.{take-all}
+use borrow.Author.Tests.{lt-leb}
+use Rattle.common.specs.Tests.{lt-or-le}
+use Rattle.plan.specs.Limits.{payloadBytes}
+use Rattle.plan.specs.declared.Plan.{Plan}
+use Rattle.plan.specs.declared.refusal.Refusal.{Refusal}
+use Rattle.planning.specs.declared.Answer.{Answer}
+use Rattle.mailbox.specs.Calls.{startAnswer, sendAnswer, look}
+use Rattle.mailbox.specs.View.{viewOf}
+use Rattle.mailbox.specs.declared.Started.{Started}
+use Rattle.mailbox.specs.declared.Sent.{Sent}
+use Rattle.mailbox.specs.declared.Received.{Received}
+use Rattle.frames.specs.Hex.{longestLine, isLine, bytesIn}
+use Rattle.frames.specs.Frames.{frameOf, payloadIn}
+use Rattle.frames.specs.NumberLaws.{bytes-length}
+use Rattle.frames.specs.Writing.{line-length, sizes-length}
+use Rattle.frames.specs.Answers.{longestAnswer, sizesBytes, storedBytes, messageBytes, gapBytes, emptyBytes, refusalBytes, badBytes, lineOf}
+use Rattle.frames.specs.declared.frame.Frame.{Frame}
+use Rattle.console.specs.declared.Desk.{Desk}
+use Rattle.console.specs.Desk.{Turn, silent, bad, rowTurn, planned, startTurn, planTurn, goTurn, sentBytes, sendTurn, filler, receivedBytes, receiveTurn, frameTurn, bytesTurn, lineTurn}
+use Rattle.console.specs.Turns.{started-queues, view-short}
+
+-- ## An answer's bytes, at most 31: their digits and the line feed are 63
+
+abbrev Few : List ℕ → Type 0
+Few bytes = length bytes ≤ 31
+
+few-bad : Few badBytes
+unfolding badBytes
+few-bad = omega (arith, bytes-length 3 0x7ff000)
+
+few-refusal : (r : Refusal) → Few (refusalBytes r)
+unfolding refusalBytes
+few-refusal r = simp (length-append, bytes-length) (omega arith)
+
+few-sent : (s : Sent) → Few (sentBytes s)
+unfolding storedBytes
+few-sent (Sent.Stored n s) = simp (length-append, bytes-length) (omega arith)
+few-sent (Sent.Refused r) = few-refusal r
+
+few-received : (m : List ℕ) (a : Received) → Few (receivedBytes m a)
+unfolding messageBytes gapBytes emptyBytes
+few-received m (Received.Message n s) = let v : length (viewOf (Received.Message n s) m filler) ≤ payloadBytes = view-short (Received.Message n s) m in simp (length-append, bytes-length) (omega arith)
+few-received m (Received.Gap n i) = simp (length-append, bytes-length) (omega arith)
+few-received m Received.Empty = simp bytes-length (omega arith)
+few-received m (Received.Refused r) = few-refusal r
+
+few-sizes : (sizes : List ℕ) (n : ℕ) → n ≤ 8 → Few (sizesBytes sizes n)
+unfolding sizesBytes
+few-sizes sizes n h = simp (length-append, bytes-length, sizes-length) (omega arith)
+
+-- ## A turn's answer
+
+abbrev Short : Turn → Type 0
+Short t = length (t .answer) ≤ longestAnswer
+
+short-line : (bytes : List ℕ) → Few bytes → length (lineOf bytes) ≤ longestAnswer
+short-line bytes h = omega (arith, line-length bytes)
+
+short-bad : (d : Desk) (m : List ℕ) → Short (bad d m)
+short-bad d m = short-line badBytes few-bad
+
+short-if : (b : Bool) (s t : Turn) → Short s → Short t → Short (cond b s t)
+short-if true s t a b = a
+short-if false s t a b = b
+
+short-row : (d : Desk) (m : List ℕ) (full : Bool) (more : Desk) → Short (rowTurn d m full more)
+unfolding rowTurn
+short-row d m full more =
+    short-if (d .running) (bad d m) (cond full (bad d m) (silent more m)) (short-bad d m)
+    (short-if full (bad d m) (silent more m) (short-bad d m) (omega arith))
+
+short-start : (d : Desk) (p : Plan) (m : List ℕ) (s : Started) → startAnswer p m ≡ s → Short (startTurn d p m s)
+short-start d p m Started.Ready e = short-line (sizesBytes (p .size) (p .queues)) (few-sizes (p .size) (p .queues) (started-queues p m e))
+short-start d p m (Started.Refused r) e = short-line (refusalBytes r) (few-refusal r)
+
+short-plan : (d : Desk) (p : Plan) (m : List ℕ) (a : Answer) → Short (planTurn d p m a)
+short-plan d p m Answer.Accepted = short-start d p m (startAnswer p m) refl
+short-plan d p m (Answer.Refused r) = short-line (refusalBytes r) (few-refusal r)
+
+short-frame : (d : Desk) (m payload : List ℕ) (f : Frame) → Short (frameTurn d m payload f)
+unfolding goTurn sendTurn receiveTurn
+short-frame d m payload (Frame.Task period deadline) = short-row d m _ _
+short-frame d m payload (Frame.Queue receiver mask) = short-row d m _ _
+short-frame d m payload Frame.Go = short-if (d .running) (bad d m) _ (short-bad d m) (short-plan d (planned d .plan) m (planned d .answer))
+short-frame d m payload (Frame.Send q i t) =
+    short-if (d .running) _ (bad d m)
+    (short-line (sentBytes (sendAnswer (d .state) (d .plan) m q i (t .0) payload)) (few-sent (sendAnswer (d .state) (d .plan) m q i (t .0) payload)))
+    (short-bad d m)
+short-frame d m payload (Frame.Receive q t) =
+    short-if (d .running) _ (bad d m)
+    (short-line (receivedBytes m (look (d .state) (d .plan) m q (t .0))) (few-received m (look (d .state) (d .plan) m q (t .0))))
+    (short-bad d m)
+short-frame d m payload Frame.Bad = short-bad d m
+
+pub answer-fits : (d : Desk) (m line : List ℕ) → length (lineTurn d m line .answer) ≤ longestAnswer
+unfolding lineTurn bytesTurn
+answer-fits d m line =
+    short-if (isLine line) (bytesTurn d m (bytesIn line)) (bad d m) (short-frame d m (payloadIn (bytesIn line)) (frameOf (bytesIn line))) (short-bad d m)
+
+-- ## A line that is too long
+
+too-long : (d : Desk) (m line : List ℕ) → longestLine < length line → lineTurn d m line ≡ bad d m
+unfolding lineTurn isLine
+too-long d m line h = rw (lt-leb (length line) longestLine h)
+
+pub line-taken : (d : Desk) (m line : List ℕ) (n : ℕ) → longestLine < n → lineTurn d m (take n line) ≡ lineTurn d m line
+line-taken d m line n h =
+    ⊎-elim (λ (g : longestLine < length line). too-long d m (take n line) (omega (arith, length-take n line)) ∙ sym (too-long d m line g))
+    (λ (g : length line ≤ longestLine). let e : take n line ≡ line = take-all n line (omega arith) in rw e)
+    (lt-or-le longestLine (length line))

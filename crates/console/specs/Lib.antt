@@ -1,0 +1,4 @@
+pub mod Desk
+pub mod Turns
+pub mod Fits
+pub mod Unique

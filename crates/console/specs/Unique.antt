@@ -1,0 +1,12 @@
+-- The contract of a step determines its outcome.
+use Prim.Native.Nat.{ℕ}
+use mathlib.Core.List.{List}
+use mathlib.Core.Path.{_≡_, sym, _∙_}
+use Rattle.console.specs.Desk.{Takes, stepOf}
+use Rattle.console.specs.declared.Desk.{Desk}
+use Rattle.console.specs.declared.Stepped.{Stepped}
+
+pub step-unique : (d : Desk) (m line out : List ℕ) (r r′ : Stepped) (memory memory′ after after′ : List ℕ) →
+    Takes (stepOf d m line out) out r memory after → Takes (stepOf d m line out) out r′ memory′ after′ →
+    (r ≡ r′) × (memory ≡ memory′) × (after ≡ after′)
+step-unique d m line out r r′ memory memory′ after after′ a b = (a .0 ∙ sym (b .0), a .1 ∙ sym (b .1), a .2 ∙ sym (b .2))

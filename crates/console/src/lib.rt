@@ -1,0 +1,110 @@
+// The console's desk: the table so far, then the plan and the state of a run. One step takes a line, any bytes of any length, does
+// what it says and writes at most one line. Each function here takes a turn of specs/Desk.antt.
+mod squares; // squares.rt: which task sends into which queue, from the sender masks
+mod table; // table.rt: frames 01 to 03, until a plan is accepted
+mod run; // run.rt: frames 04 and 05, from then on
+
+use frames::answers::write_bad;
+use frames::frame::Frame;
+use frames::frame::frame_of;
+use frames::frame::payload_in;
+use frames::hex::BYTES;
+use frames::hex::Decoded;
+use frames::hex::decode;
+use mailbox::State;
+use plan::Plan;
+use run::receive;
+use run::send;
+use table::add_queue;
+use table::add_task;
+use table::go;
+ghost use mathlib.Core.Path.{_≡_};
+ghost use mathlib.Core.List.{List};
+ghost use Prim.Native.Nat.{ℕ, _≤_};
+ghost use lib.ListN.{length};
+ghost use Rattle.frames.specs.Answers.{longestAnswer};
+ghost use Rattle.console.specs.Desk.{newDesk, bad, bytesTurn, stepOf, Takes};
+
+pub struct Desk {
+    // the rows of the table so far
+    pub tasks: usize,
+    pub queues: usize,
+    // of each task
+    pub period: [u64; Plan::TASKS],
+    pub deadline: [u64; Plan::TASKS],
+    // of each queue: its receiver's row, and a mask with bit i for task i
+    pub receiver: [usize; Plan::QUEUES],
+    pub senders: [u64; Plan::QUEUES],
+    // a plan was accepted and started
+    pub running: bool,
+    pub plan: Plan,
+    pub state: State,
+}
+
+// The next desk, and how many bytes of the buffer were written.
+pub struct Stepped {
+    pub desk: Desk,
+    pub written: usize,
+}
+
+// No answer is longer.
+const ROOM: usize = 64;
+
+impl Desk {
+    // An empty table.
+    pub fn new() -> Desk
+        ensures { λ r. ⌜ r ≡ newDesk ⌝ }
+    {
+        Desk {
+            tasks: 0,
+            queues: 0,
+            period: [0; Plan::TASKS],
+            deadline: [0; Plan::TASKS],
+            receiver: [0; Plan::QUEUES],
+            senders: [0; Plan::QUEUES],
+            running: false,
+            plan: Plan::zeros(),
+            state: State::fresh(),
+        }
+    }
+}
+
+// A line that is no frame, or comes at the wrong time.
+fn refuse_line(desk: Desk, out: &mut [u8]) -> Stepped
+    requires { ⌜ longestAnswer ≤ length (now out) ⌝ }
+    ensures { λ r. ⌜ ((m : List ℕ) → Takes (bad desk m) (now (out .entry)) r m (now (out .exit))) ⌝ }
+{
+    Stepped {
+        desk,
+        written: write_bad(out),
+    }
+}
+
+fn act(desk: Desk, memory: &mut [u8], bytes: &[u8], out: &mut [u8]) -> Stepped
+    requires { ⌜ longestAnswer ≤ length (now out) ⌝ }
+    ensures { λ r. ⌜ Takes (bytesTurn desk (now (memory .entry)) (now (bytes .entry))) (now (out .entry)) r (now (memory .exit)) (now (out .exit)) ⌝ }
+{
+    let frame = frame_of(bytes);
+    match frame {
+        Frame::Task(period, deadline) => add_task(desk, out, period, deadline),
+        Frame::Queue(receiver, mask) => add_queue(desk, out, receiver, mask),
+        Frame::Go => go(desk, memory, out),
+        Frame::Send(queue, task, at) => send(desk, memory, out, queue, task, at, payload_in(bytes)),
+        Frame::Receive(queue, at) => receive(desk, memory, out, queue, at),
+        Frame::Bad => refuse_line(desk, out),
+    }
+}
+
+pub fn step(desk: Desk, memory: &mut [u8], line: &[u8], out: &mut [u8]) -> Stepped
+    ensures { λ r. ⌜ Takes (stepOf desk (now (memory .entry)) (now (line .entry)) (now (out .entry))) (now (out .entry)) r (now (memory .exit)) (now (out .exit)) ⌝ }
+{
+    if out.len() < ROOM {
+        return Stepped { desk, written: 0 };
+    }
+    let mut bytes = [0; BYTES];
+    let decoded = decode(line, &mut bytes);
+    let Decoded::Bytes(n) = decoded else {
+        return refuse_line(desk, out);
+    };
+    act(desk, memory, &bytes[..n], out)
+}

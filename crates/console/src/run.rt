@@ -1,0 +1,101 @@
+// Frames 04 and 05: a send or a receive on the desk's own plan and state, and the line that tells its answer.
+use crate::Desk;
+use crate::Stepped;
+use crate::refuse_line;
+use calendar::Tick;
+use frames::answers::write_empty;
+use frames::answers::write_gap;
+use frames::answers::write_message;
+use frames::answers::write_refusal;
+use frames::answers::write_stored;
+use mailbox::Received;
+use mailbox::Sent;
+use mailbox::State;
+use mailbox::view::view;
+use plan::Plan;
+ghost use mathlib.Core.Path.{_≡_};
+ghost use Prim.Native.Nat.{_≤_};
+ghost use lib.ListN.{length};
+ghost use Rattle.frames.specs.Answers.{longestAnswer};
+ghost use Rattle.frames.specs.Writing.{Written};
+ghost use Rattle.console.specs.Desk.{withState, sentBytes, receivedBytes, sendTurn, receiveTurn, Takes};
+
+fn with_state(mut desk: Desk, state: State) -> Desk
+    ensures { λ r. ⌜ r ≡ withState desk state ⌝ }
+{
+    desk.state = state;
+    desk
+}
+
+fn write_sent(out: &mut [u8], answer: Sent) -> usize
+    requires { ⌜ longestAnswer ≤ length (now out) ⌝ }
+    ensures { λ r. ⌜ Written (sentBytes answer) (now (out .entry)) r (now (out .exit)) ⌝ }
+{
+    match answer {
+        Sent::Stored(number, slot) => write_stored(out, number, slot),
+        Sent::Refused(refusal) => write_refusal(out, refusal),
+    }
+}
+
+pub fn send(
+    desk: Desk,
+    memory: &mut [u8],
+    out: &mut [u8],
+    queue: usize,
+    task: usize,
+    at: Tick,
+    payload: &[u8],
+) -> Stepped
+    requires { ⌜ longestAnswer ≤ length (now out) ⌝ }
+    ensures { λ r. ⌜ Takes (sendTurn desk (now (memory .entry)) queue task at (now (payload .entry))) (now (out .entry)) r (now (memory .exit)) (now (out .exit)) ⌝ }
+{
+    if !desk.running {
+        return refuse_line(desk, out);
+    }
+    let plan = desk.plan;
+    let state = desk.state;
+    let sending = state.send(plan, memory, queue, task, at, payload);
+    let answer = sending.answer;
+    let next = sending.state;
+    let written = write_sent(out, answer);
+    Stepped {
+        desk: with_state(desk, next),
+        written,
+    }
+}
+
+fn write_received(out: &mut [u8], memory: &[u8], answer: Received) -> usize
+    requires { ⌜ longestAnswer ≤ length (now out) ⌝ }
+    ensures { λ r. ⌜ Written (receivedBytes (now (memory .entry)) answer) (now (out .entry)) r (now (out .exit)) ⌝ }
+{
+    if let Received::Message(number, _) = answer {
+        let filler = [0; Plan::PAYLOAD_BYTES];
+        return write_message(out, number, view(answer, memory, &filler));
+    }
+    if let Received::Gap(number, sender) = answer {
+        return write_gap(out, number, sender);
+    }
+    if let Received::Refused(refusal) = answer {
+        return write_refusal(out, refusal);
+    }
+    write_empty(out)
+}
+
+pub fn receive(desk: Desk, memory: &[u8], out: &mut [u8], queue: usize, at: Tick) -> Stepped
+    requires { ⌜ longestAnswer ≤ length (now out) ⌝ }
+    ensures { λ r. ⌜ Takes (receiveTurn desk (now (memory .entry)) queue at) (now (out .entry)) r (now (memory .entry)) (now (out .exit)) ⌝ }
+{
+    if !desk.running {
+        return refuse_line(desk, out);
+    }
+    let plan = desk.plan;
+    let state = desk.state;
+    let receiving = state.receive(plan, memory, queue, at);
+    let answer = receiving.answer;
+    let next = receiving.state;
+    let written = write_received(out, memory, answer);
+    Stepped {
+        desk: with_state(desk, next),
+        written,
+    }
+}

@@ -1,0 +1,32 @@
+-- What a call of `feed` leaves: the result, and the three buffers, from the one definition of feeding.
+use Prim.Native.Nat.{ℕ, _+_, _≤_}
+use mathlib.Core.List.{List}
+use mathlib.Core.Path.{_≡_}
+use lib.ListN.{length, take, drop}
+use lib.Seq.{sets}
+use Rattle.console.specs.declared.Desk.{Desk}
+use Rattle.lines.specs.Lines.{kept}
+use Rattle.feed.specs.Answers.{World}
+use Rattle.feed.specs.Feed.{Feeding, feedOf}
+use Rattle.feed.specs.declared.Fed.{Fed}
+
+abbrev pub worldOf : Desk → List ℕ → World
+worldOf d m = record { desk = d; memory = m }
+
+-- the block from a place on is fed, with the first `used` bytes of the buffer as the carry
+abbrev pub fedFrom : World → List ℕ → ℕ → List ℕ → ℕ → List ℕ → Feeding
+fedFrom w held used piece from out = feedOf w (take used held) (drop from piece) (length out)
+
+abbrev pub resultOf : Feeding → ℕ → Fed
+resultOf f from = record { desk = f .world .desk; used = length (f .carry); next = from + f .taken; written = length (f .answers) }
+
+pub record Outcome (f : Feeding) (piece : List ℕ) (from : ℕ) (held₀ out₀ : List ℕ) (r : Fed) (memory held out : List ℕ) : Type 0 where
+  pub result : r ≡ resultOf f from
+  pub memory-is : memory ≡ f .world .memory
+  pub carry-is : take (r .used) held ≡ f .carry
+  pub held-length : length held ≡ length held₀
+  pub out-is : out ≡ sets out₀ 0 (f .answers)
+  -- so that the next call can be made
+  pub used-fits : r .used ≤ kept
+  pub next-fits : r .next ≤ length piece
+  pub written-fits : r .written ≤ length out₀

@@ -1,0 +1,169 @@
+-- What feeding means: the lines of the text that was used are answered one after another, in whatever blocks the text came and however
+-- often the room for answers ran short.
+use Prim.Native.Nat.{ℕ, suc, _+_, _-_, _<_, _≤_}
+use native.Mathlib.Omega.{arith}
+use mathlib.Core.Bool.{Bool, true, false}
+use mathlib.Core.List.{List, [], _∷_, _++_, map, append-nil}
+use mathlib.Core.Path.{_≡_, refl, sym, ap, _∙_}
+use lib.Dec.{eqb, ltb}
+use lib.ListN.{length, take, drop, length-append, length-drop}
+use borrow.Author.Tests.{le-ltb, ltb-true}
+use Rattle.console.specs.Desk.{Turn}
+use Rattle.lines.specs.Lines.{lineFeed, cut, fed, ended}
+use Rattle.lines.specs.Blocks.{fed-append}
+use Rattle.lines.specs.Whole.{linesOf, whole-lines}
+use Rattle.feed.specs.Answers.{World, next, reply, worldAfter, answersTo, world-append, answers-append}
+use Rattle.feed.specs.Feed.{enough, Feeding, still, onward, going, feedOf}
+use Rattle.feed.specs.Step.{line-cut}
+use Rattle.feed.specs.Outcome.{fedFrom, Outcome}
+use Rattle.feed.specs.declared.Fed.{Fed as FedResult}
+
+-- from the world w and the carry c, the text x comes to this: its lines are answered one after another, and the rest of it is carried
+pub record Answered (w : World) (c x : List ℕ) (f : Feeding) : Type 0 where
+  pub world : f .world ≡ worldAfter w (fed c x .lines)
+  pub answers : f .answers ≡ answersTo w (fed c x .lines)
+  pub carry : f .carry ≡ fed c x .carry
+
+-- ## One call
+
+none-answered : (w : World) (c : List ℕ) → Answered w c [] (still w c)
+unfolding fed worldAfter answersTo
+none-answered w c = record { world = refl; answers = refl; carry = refl }
+
+-- a byte more of the line; and the line's end
+byte-answered :
+    (w : World) (c : List ℕ) (b : ℕ) (x : List ℕ) (f : Feeding) → eqb b lineFeed ≡ false → Answered w (cut (c ++ (b ∷ []))) x f →
+    Answered w c (b ∷ x) (onward 1 [] f)
+unfolding fed
+byte-answered w c b x f e a = record { world = rw e (a .world); answers = rw e (a .answers); carry = rw e (a .carry) }
+
+line-answered :
+    (w : World) (c : List ℕ) (b : ℕ) (x : List ℕ) (f : Feeding) → eqb b lineFeed ≡ true → Answered (next w c) [] x f →
+    Answered w c (b ∷ x) (onward 1 (reply w c) f)
+unfolding fed worldAfter answersTo
+line-answered w c b x f e a =
+    record { world = rw e (a .world); answers = rw e (ap (λ (y : List ℕ). reply w c ++ y) (a .answers)); carry = rw e (a .carry) }
+
+take-one : (n b : ℕ) (bs : List ℕ) → take (1 + n) (b ∷ bs) ≡ b ∷ take n bs
+take-one n b bs = let e : 1 + n ≡ suc n = omega arith in rw e
+
+going-answered : (w : World) (c t : List ℕ) (room : ℕ) → Answered w c (take (going w c t room .taken) t) (going w c t room)
+unfolding going
+going-answered w c [] room = none-answered w c
+going-answered w c (b ∷ bs) room =
+    go (eqb b lineFeed) refl (ltb (room - length (reply w c)) enough) refl (going-answered (next w c) [] bs (room - length (reply w c)))
+    (going-answered w (cut (c ++ (b ∷ []))) bs room)
+  where
+    ended-here : Feeding
+    ended-here = going (next w c) [] bs (room - length (reply w c))
+
+    goes-on : Feeding
+    goes-on = going w (cut (c ++ (b ∷ []))) bs room
+
+    go :
+        (e : Bool) → eqb b lineFeed ≡ e → (s : Bool) → ltb (room - length (reply w c)) enough ≡ s →
+        Answered (next w c) [] (take (ended-here .taken) bs) ended-here → Answered w (cut (c ++ (b ∷ []))) (take (goes-on .taken) bs) goes-on →
+        Answered w c (take (going w c (b ∷ bs) room .taken) (b ∷ bs)) (going w c (b ∷ bs) room)
+    go true e true s f g = rw (e, s) (line-answered w c b [] (still (next w c) []) e (none-answered (next w c) []))
+    go true e false s f g = rw (e, s, take-one (ended-here .taken) b bs) (line-answered w c b (take (ended-here .taken) bs) ended-here e f)
+    go false e s r f g = rw (e, take-one (goes-on .taken) b bs) (byte-answered w c b (take (goes-on .taken) bs) goes-on e g)
+
+pub feed-answered : (w : World) (c t : List ℕ) (room : ℕ) → Answered w c (take (feedOf w c t room .taken) t) (feedOf w c t room)
+unfolding feedOf
+feed-answered w c t room = go (ltb room enough) refl
+  where
+    go : (s : Bool) → ltb room enough ≡ s → Answered w c (take (feedOf w c t room .taken) t) (feedOf w c t room)
+    go true s = rw s (none-answered w c)
+    go false s = rw s (going-answered w c t room)
+
+-- with room for an answer a call uses at least one byte
+pub feed-moves : (w : World) (c t : List ℕ) (room : ℕ) → enough ≤ room → 0 < length t → 0 < feedOf w c t room .taken
+unfolding feedOf going
+feed-moves w c [] room h l = absurd (omega arith)
+feed-moves w c (b ∷ bs) room h l = rw (le-ltb room enough h) (go (eqb b lineFeed) refl)
+  where
+    go : (e : Bool) → eqb b lineFeed ≡ e → 0 < going w c (b ∷ bs) room .taken
+    go true e = rw e (omega arith)
+    go false e = rw e (omega arith)
+
+-- as a caller sees it
+pub next-moves :
+    (w : World) (held : List ℕ) (used : ℕ) (piece : List ℕ) (from : ℕ) (out held₀ out₀ : List ℕ) (r : FedResult) (m h o : List ℕ) →
+    Outcome (fedFrom w held used piece from out) piece from held₀ out₀ r m h o → enough ≤ length out → from < length piece → from < r .next
+next-moves w held used piece from out held₀ out₀ r m h o a room l =
+    omega (
+      arith,
+      ap (λ (x : FedResult). x .next) (a .result),
+      feed-moves w (take used held) (drop from piece) (length out) room (rw (length-drop from piece) (omega arith)),
+    )
+
+-- and where it leaves a part of the block, the room is short
+going-waits : (w : World) (c t : List ℕ) (room : ℕ) → going w c t room .taken < length t → room - length (going w c t room .answers) < enough
+unfolding going
+going-waits w c [] room = λ h. absurd (omega arith)
+going-waits w c (b ∷ bs) room =
+    go (eqb b lineFeed) refl (ltb (room - length (reply w c)) enough) refl (going-waits (next w c) [] bs (room - length (reply w c)))
+    (going-waits w (cut (c ++ (b ∷ []))) bs room)
+  where
+    ended-here : Feeding
+    ended-here = going (next w c) [] bs (room - length (reply w c))
+
+    goes-on : Feeding
+    goes-on = going w (cut (c ++ (b ∷ []))) bs room
+
+    go :
+        (e : Bool) → eqb b lineFeed ≡ e → (s : Bool) → ltb (room - length (reply w c)) enough ≡ s →
+        (ended-here .taken < length bs → room - length (reply w c) - length (ended-here .answers) < enough) →
+        (goes-on .taken < length bs → room - length (goes-on .answers) < enough) →
+        going w c (b ∷ bs) room .taken < suc (length bs) → room - length (going w c (b ∷ bs) room .answers) < enough
+    go true e true s f g = rw (e, s, append-nil (reply w c)) (λ h. ltb-true (room - length (reply w c)) enough s)
+    go true e false s f g =
+        rw (e, s, length-append (reply w c) (ended-here .answers)) (λ h. omega (arith, f (omega arith)))
+    go false e s r f g = rw e (λ h. g (omega arith))
+
+pub feed-waits : (w : World) (c t : List ℕ) (room : ℕ) → feedOf w c t room .taken < length t → room - length (feedOf w c t room .answers) < enough
+unfolding feedOf
+feed-waits w c t room = go (ltb room enough) refl
+  where
+    go : (s : Bool) → ltb room enough ≡ s → feedOf w c t room .taken < length t → room - length (feedOf w c t room .answers) < enough
+    go true s = rw s (λ h. omega (arith, ltb-true room enough s))
+    go false s = rw s (going-waits w c t room)
+
+-- ## Calls one after another, and the whole text
+
+pub answered-append :
+    (w : World) (c x y : List ℕ) (f g : Feeding) → Answered w c x f → Answered (f .world) (f .carry) y g → Answered w c (x ++ y) (onward (f .taken) (f .answers) g)
+answered-append w c x y f g a b =
+    let first = fed c x .lines in
+    let second = fed (fed c x .carry) y .lines in
+    record {
+      world = rw (fed-append c x y) (rw (a .world, a .carry) at (b .world) ∙ sym (world-append w first second));
+      answers = rw (fed-append c x y) (rw (a .answers, rw (a .world, a .carry) at (b .answers)) (sym (answers-append w first second)));
+      carry = rw (fed-append c x y) (rw (a .carry) at (b .carry));
+    }
+
+-- however a text was divided, the answers, the world and the carry are the same
+pub any-division :
+    (w : World) (c x : List ℕ) (f g : Feeding) → Answered w c x f → Answered w c x g →
+    (f .world ≡ g .world) × (f .answers ≡ g .answers) × (f .carry ≡ g .carry)
+any-division w c x f g a b = (a .world ∙ sym (b .world), a .answers ∙ sym (b .answers), a .carry ∙ sym (b .carry))
+
+-- lines that are answered cut are answered
+cut-next : (w : World) (l : List ℕ) → next w (cut l) ≡ next w l
+cut-next w l = rw (line-cut (w .desk) (w .memory) l)
+
+cut-reply : (w : World) (l : List ℕ) → reply w (cut l) ≡ reply w l
+cut-reply w l = ap (λ (t : Turn). t .answer) (line-cut (w .desk) (w .memory) l)
+
+answers-cut : (w : World) (ls : List (List ℕ)) → answersTo w (map cut ls) ≡ answersTo w ls
+unfolding answersTo
+answers-cut w [] = refl
+answers-cut w (l ∷ ls) = rw (cut-reply w l, cut-next w l) (ap (λ (x : List ℕ). reply w l ++ x) (answers-cut (next w l) ls))
+
+-- a whole text from the empty carry, its last line without its end too: the answers are those to its lines, one after another
+pub session :
+    (w : World) (t : List ℕ) (f : Feeding) → Answered w [] t f →
+    f .answers ++ answersTo (f .world) (ended (f .carry)) ≡ answersTo w (linesOf t)
+session w t f a =
+    rw (a .answers, a .world, a .carry)
+    (sym (answers-append w (fed [] t .lines) (ended (fed [] t .carry))) ∙ ap (answersTo w) (whole-lines t) ∙ answers-cut w (linesOf t))

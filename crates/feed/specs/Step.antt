@@ -1,0 +1,49 @@
+-- A step of the console on a part of the output buffer: with room enough the answer is written whole, at the part's start.
+use Prim.Native.Nat.{ℕ, _+_, _-_, _≤_}
+use native.Mathlib.Omega.{arith}
+use mathlib.Core.List.{List, _++_, append-assoc, append-nil}
+use mathlib.Core.Path.{_≡_, ap}
+use lib.ListN.{length, take, drop, length-drop, drop-of-length-le}
+use lib.Seq.{sets, sets-eq, length-take-le, take-all, drop-drop}
+use borrow.Author.Tests.{le-ltb}
+use borrow.Rule.Slice.PartMut.{midOf, putMid}
+use Rattle.console.specs.declared.Desk.{Desk}
+use Rattle.console.specs.declared.Stepped.{Stepped}
+use Rattle.console.specs.Desk.{lineTurn, stepOf, Takes}
+use Rattle.lines.specs.Lines.{kept, cut}
+use Rattle.feed.specs.Feed.{enough}
+use Rattle.feed.specs.Fits.{line-taken}
+
+-- a line that is cut is answered as the whole line is
+pub line-cut : (d : Desk) (m line : List ℕ) → lineTurn d m (cut line) ≡ lineTurn d m line
+unfolding cut
+line-cut d m line = line-taken d m line kept (omega arith)
+
+pub step-takes :
+    (d : Desk) (m line out : List ℕ) {r : Stepped} {memory after : List ℕ} → enough ≤ length out →
+    Takes (stepOf d m line out) out r memory after → Takes (lineTurn d m line) out r memory after
+unfolding stepOf
+step-takes d m line out h t = rw (le-ltb (length out) enough h) at t
+
+-- ## A part of the output buffer
+
+pub room-of : (out : List ℕ) (w : ℕ) → length (midOf w (length out - w) out) ≡ length out - w
+room-of out w = length-take-le (length out - w) (drop w out) (omega (arith, length-drop w out))
+
+-- what is stored at the start of a part is stored in the whole, at the part's place
+pub put-sets :
+    (out xs : List ℕ) (w : ℕ) → w + length xs ≤ length out →
+    putMid w (length out - w) out (sets (midOf w (length out - w) out) 0 xs) ≡ sets out w xs
+put-sets out xs w h =
+    let n : length (drop w out) ≡ length out - w = length-drop w out in
+    let m : 0 + length xs ≡ length xs = omega arith in
+    rw (
+      take-all (length out - w) (drop w out) (omega arith),
+      drop-of-length-le (drop w out) {i = length out - w} (omega arith),
+      append-nil (sets (drop w out) 0 xs),
+      sets-eq xs (drop w out) 0 (omega arith),
+      sets-eq xs out w h,
+      append-assoc (take w out) xs (drop (w + length xs) out),
+      m,
+    )
+    (ap (λ (l : List ℕ). take w out ++ (xs ++ l)) (drop-drop (length xs) w out))

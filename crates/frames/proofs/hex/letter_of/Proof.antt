@@ -1,0 +1,7 @@
+use borrow.Author.Needs.{needs}
+use Rattle.common.specs.Tests.{tests}
+use Rattle.frames.proofs.hex.letter_of.Statement.{statement}
+use Rattle.frames.proofs.hex.letter_of.Tie as tie
+
+pub letter-of-spec : {M : Type 1} → statement M
+letter-of-spec = tie.close (tie.spec (λ c. search needs) (λ c. search tests) (λ c. search needs) (λ c. search tests))

@@ -1,0 +1,23 @@
+use borrow.Author.Needs.{needs}
+use native.Mathlib.Omega.{arith}
+use native.Mathlib.Numerals.{add-one}
+use lib.ListN.{length-set}
+use Rattle.frames.specs.Hex.{digits}
+use Rattle.frames.proofs.hex.put_byte.Statement.{statement}
+use Rattle.frames.proofs.hex.put_byte.Tie as tie
+
+returns : tie.Need-returns
+unfolding digits
+returns c = rw (c .before .letter-of .ensures, c .letter-of2 .ensures, add-one)
+
+pub put-byte-spec : {M : Type 1} → statement M
+put-byte-spec =
+    tie.close
+    (tie.spec
+    (λ c κs. search needs)
+    (λ c. search needs)
+    (λ c κs. search needs)
+    (λ c. search needs)
+    (λ c. simp length-set (omega arith))
+    (λ c. search needs)
+    returns)

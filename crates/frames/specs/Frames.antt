@@ -1,0 +1,47 @@
+-- The frames that the console reads, "one frame a line, numbers high byte first". A frame is known by its first byte and its length.
+use Prim.Native.Nat.{ℕ}
+use mathlib.Core.Bool.{Bool, cond, not}
+use mathlib.Core.List.{List}
+use lib.Dec.{leb, ltb, eqb}
+use lib.ListN.{length, getD, drop}
+use Rattle.calendar.specs.Calendar.{tick}
+use Rattle.frames.specs.Numbers.{valueAt}
+use Rattle.frames.specs.declared.frame.Frame.{Frame}
+
+abbrev pub ofSize : ℕ → List ℕ → Frame → Frame
+ofSize size bytes frame = cond (eqb (length bytes) size) frame Frame.Bad
+
+-- "01: period (2 bytes), deadline (2)"
+abbrev pub taskIn : List ℕ → Frame
+taskIn bytes = ofSize 5 bytes (Frame.Task (valueAt bytes 1 2) (valueAt bytes 3 2))
+
+-- "02: receiver (1), sender mask (2, bit i for task i)"
+abbrev pub queueIn : List ℕ → Frame
+queueIn bytes = ofSize 4 bytes (Frame.Queue (valueAt bytes 1 1) (valueAt bytes 2 2))
+
+-- "03: plan and start"
+abbrev pub goIn : List ℕ → Frame
+goIn bytes = ofSize 1 bytes Frame.Go
+
+-- "04: queue, task, tick (5), payload", which "may be of any whole bytes"
+abbrev pub sendIn : List ℕ → Frame
+sendIn bytes = cond (ltb (length bytes) 8) Frame.Bad (Frame.Send (valueAt bytes 1 1) (valueAt bytes 2 1) (tick (valueAt bytes 3 5)))
+
+unfoldable pub payloadIn : List ℕ → List ℕ
+payloadIn bytes = drop 8 bytes
+
+-- "05: queue, tick (5)"
+abbrev pub receiveIn : List ℕ → Frame
+receiveIn bytes = ofSize 7 bytes (Frame.Receive (valueAt bytes 1 1) (tick (valueAt bytes 2 5)))
+
+abbrev pub byKind : ℕ → List ℕ → Frame
+byKind kind bytes =
+    cond (eqb kind 0x01) (taskIn bytes)
+    (cond (eqb kind 0x02) (queueIn bytes)
+    (cond (eqb kind 0x03) (goIn bytes)
+    (cond (eqb kind 0x04) (sendIn bytes)
+    (cond (eqb kind 0x05) (receiveIn bytes)
+    Frame.Bad))))
+
+unfoldable pub frameOf : List ℕ → Frame
+frameOf bytes = cond (eqb (length bytes) 0) Frame.Bad (byKind (getD bytes 0 0) bytes)

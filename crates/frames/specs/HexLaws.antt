@@ -1,0 +1,202 @@
+-- Laws of digits: a line of whole pairs, the buffer after decoding, and how many digits bytes take.
+use Prim.Native.Nat.{ℕ, zero, suc, _+_, _-_, _*_, _/_, _%_, _<_, _≤_}
+use native.Mathlib.Omega.{arith}
+use native.Mathlib.Numerals.{add-one}
+use native.Mathlib.Nat.{div-add-mod'}
+use mathlib.Core.Bool.{Bool, true, false, cond, _&&_}
+use mathlib.Core.List.{List, [], _∷_, _++_}
+use mathlib.Core.Logic.{⊎-elim, inl, inr, _⊎_}
+use mathlib.Core.Path.{_≡_, refl, sym, ap, subst, _∙_}
+use lib.Dec.{leb, ltb, eqb}
+use lib.ListN.{length, getD, take, set, replicate, length-append}
+use lib.Seq.{sets, length-sets, length-take-le, take-suc}
+use borrow.Author.Tests.{lt-ltb, le-ltb, le-leb, lt-leb, eq-eqb, ne-eqb, leb-true, eqb-true}
+use Rattle.common.specs.Tests.{lt-or-le, having, and-left, and-right}
+use Rattle.common.specs.Rows.{every, firstBad, firstBad-found, every-fails, every-firstBad}
+use Rattle.common.specs.Table.{table, table-length}
+use Rattle.common.specs.Stores.{sets-append, part-same}
+use Rattle.frames.specs.declared.hex.Decoded.{Decoded}
+use Rattle.frames.specs.Hex.{noDigit, digit, digitAt, longestLine, mostBytes, evenLine, isLine, byteAt, bytesIn, pairAt, decodedOf, decodedInto, letter, digits}
+
+-- ## A line's pairs
+
+and-assoc : (a b c : Bool) → ((a && b) && c) ≡ (a && (b && c))
+and-assoc true b c = refl
+and-assoc false b c = refl
+
+every-two : (t : ℕ → Bool) (n : ℕ) → every t (suc (suc n)) ≡ (every t n && t n) && t (suc n)
+unfolding every
+every-two t n = refl
+
+every-one : (t : ℕ → Bool) (n : ℕ) → every t (suc n) ≡ (every t n && t n)
+unfolding every
+every-one t n = refl
+
+-- all digits are digits exactly when all pairs are pairs of digits
+pub pairs-are : (line : List ℕ) (n : ℕ) → every (digitAt line) (2 * n) ≡ every (pairAt line) n
+unfolding every
+pairs-are line zero = refl
+pairs-are line (suc n) =
+    let e : 2 * suc n ≡ suc (suc (2 * n)) = omega arith in
+    rw (e, every-two (digitAt line) (2 * n), every-one (pairAt line) n, add-one (2 * n), ← pairs-are line n)
+    (and-assoc (every (digitAt line) (2 * n)) (digitAt line (2 * n)) (digitAt line (suc (2 * n))))
+
+pub halves : (line : List ℕ) → length line % 2 ≡ 0 → 2 * (length line / 2) ≡ length line
+halves line e = omega arith
+
+-- a line of even length at most 100 holds bytes exactly when its pairs are pairs of digits
+pub line-by-pairs : (line : List ℕ) → length line ≤ longestLine → length line % 2 ≡ 0 → isLine line ≡ every (pairAt line) (length line / 2)
+unfolding isLine
+line-by-pairs line l e =
+    rw (le-leb (length line) longestLine l, eq-eqb (length line % 2) 0 e)
+    (ap (every (digitAt line)) (sym (halves line e)) ∙ pairs-are line (length line / 2))
+
+-- ## The byte of two digits, as the code reckons it: 256 where one of them is none
+
+abbrev pub noByte : ℕ
+noByte = 256
+
+unfoldable pub joined : ℕ → ℕ → ℕ
+joined high low = cond (ltb 15 (digit high)) noByte (cond (ltb 15 (digit low)) noByte (digit high * 16 + digit low))
+
+-- ## One byte more in the buffer, and one byte more as digits
+
+pub sets-table : (f : ℕ → ℕ) (l : List ℕ) (k : ℕ) → set (sets l 0 (table f k)) k (f k) ≡ sets l 0 (table f (k + 1))
+unfolding table
+sets-table f l k =
+    let z : 0 + k ≡ k = omega arith in
+    rw (add-one k, sets-append (table f k) (f k ∷ []) l 0, table-length f k, z)
+
+pub digits-append : (a b : List ℕ) → digits (a ++ b) ≡ digits a ++ digits b
+unfolding digits
+digits-append [] b = refl
+digits-append (x ∷ a) b = rw (digits-append a b)
+
+pub digits-length : (a : List ℕ) → length (digits a) ≡ 2 * length a
+unfolding digits
+digits-length [] = refl
+digits-length (x ∷ a) = omega (arith, digits-length a)
+
+-- a turn of the loop that writes the digits of bytes: one byte more
+pub digits-more :
+    (bytes l : List ℕ) (at k : ℕ) → k < length bytes →
+    sets (sets l at (digits (take k bytes))) (at + 2 * k) (digits (getD bytes k 0 ∷ [])) ≡ sets l at (digits (take (k + 1) bytes))
+digits-more bytes l at k h =
+    let e : length (digits (take k bytes)) ≡ 2 * k = digits-length (take k bytes) ∙ ap (λ (n : ℕ). 2 * n) (length-take-le k bytes (omega arith)) in
+    rw (add-one k, take-suc bytes k 0 h, digits-append (take k bytes) (getD bytes k 0 ∷ []), sets-append (digits (take k bytes)) (digits (getD bytes k 0 ∷ [])) l at, e)
+
+-- ## Decoding
+
+-- two digits, or not: what the code's number says of a pair
+module _ (line : List ℕ) (k : ℕ) where
+  abbrev a : ℕ
+  a = digit (getD line (2 * k) 0)
+
+  abbrev b : ℕ
+  b = digit (getD line (2 * k + 1) 0)
+
+  Told : ℕ → Type 0
+  Told n = ((n < noByte) × (pairAt line k ≡ true) × (n ≡ byteAt line k)) ⊎ ((noByte ≤ n) × (pairAt line k ≡ false))
+
+  told : Told (joined (getD line (2 * k) 0) (getD line (2 * k + 1) 0))
+  unfolding joined Told
+  told = go (lt-or-le 15 a) (lt-or-le 15 b)
+    where
+      go : (15 < a) ⊎ (a ≤ 15) → (15 < b) ⊎ (b ≤ 15) → Told (cond (ltb 15 a) noByte (cond (ltb 15 b) noByte (a * 16 + b)))
+      go (inl h) g = rw (lt-ltb 15 a h, le-ltb a noDigit h) (inr (omega arith, refl))
+      go (inr h) (inl g) = rw (le-ltb 15 a h, lt-ltb 15 b g, lt-ltb a noDigit (omega arith), le-ltb b noDigit g) (inr (omega arith, refl))
+      go (inr h) (inr g) = rw (le-ltb 15 a h, le-ltb 15 b g, lt-ltb a noDigit (omega arith), lt-ltb b noDigit (omega arith)) (inl (omega arith, refl, refl))
+
+  pub joined-byte : joined (getD line (2 * k) 0) (getD line (2 * k + 1) 0) < noByte →
+      (pairAt line k ≡ true) × (joined (getD line (2 * k) 0) (getD line (2 * k + 1) 0) ≡ byteAt line k)
+  unfolding Told
+  joined-byte h = ⊎-elim (λ x. (x .1, x .2)) (λ x. absurd (omega (arith, x .0))) told
+
+  pub joined-none : noByte ≤ joined (getD line (2 * k) 0) (getD line (2 * k + 1) 0) → pairAt line k ≡ false
+  unfolding Told
+  joined-none h = ⊎-elim (λ x. absurd (omega (arith, x .0))) (λ x. x .1) told
+
+module _ (line buffer : List ℕ) where
+  -- what decoding comes to, line by line of the code
+  pub decoded-long : longestLine < length line → (Decoded.Bad ≡ decodedOf line) × (buffer ≡ decodedInto line buffer)
+  unfolding decodedOf decodedInto isLine
+  decoded-long h = let e = lt-leb (length line) longestLine h in (rw e, rw e)
+
+  pub decoded-odd : length line ≤ longestLine → (length line % 2 ≡ 0 → ⊥) → (Decoded.Bad ≡ decodedOf line) × (buffer ≡ decodedInto line buffer)
+  unfolding decodedOf decodedInto isLine
+  decoded-odd l h =
+      let e = le-leb (length line) longestLine l in
+      let o = ne-eqb (length line % 2) 0 h in
+      (rw (e, o), rw (e, o))
+
+  module _ (fits : length line ≤ longestLine) (even : length line % 2 ≡ 0) where
+    into : decodedInto line buffer ≡ sets buffer 0 (table (byteAt line) (firstBad (pairAt line) (length line / 2)))
+    unfolding decodedInto
+    into = rw (le-leb (length line) longestLine fits, eq-eqb (length line % 2) 0 even)
+
+    -- the loop found no byte at k
+    pub decoded-stops : (k : ℕ) → k < length line / 2 → firstBad (pairAt line) k ≡ k → pairAt line k ≡ false →
+        (Decoded.Bad ≡ decodedOf line) × (sets buffer 0 (table (byteAt line) k) ≡ decodedInto line buffer)
+    unfolding decodedOf
+    decoded-stops k l b h =
+        let e = firstBad-found (pairAt line) k (length line / 2) l b h in
+        (rw (line-by-pairs line fits even, every-fails (pairAt line) k (length line / 2) l h), rw (into, e))
+
+    pub decoded-all : firstBad (pairAt line) (length line / 2) ≡ length line / 2 →
+        (Decoded.Bytes (length line / 2) ≡ decodedOf line) × (sets buffer 0 (table (byteAt line) (length line / 2)) ≡ decodedInto line buffer)
+    unfolding decodedOf
+    decoded-all e =
+        (rw (line-by-pairs line fits even, every-firstBad (pairAt line) (length line / 2) .1 e), rw (into, e))
+
+    -- a buffer that a whole line was decoded into
+    pub decoded-line : isLine line ≡ true → decodedInto line buffer ≡ sets buffer 0 (bytesIn line)
+    unfolding bytesIn
+    decoded-line h = rw (into, every-firstBad (pairAt line) (length line / 2) .0 (sym (line-by-pairs line fits even) ∙ h))
+
+pub line-even : (line : List ℕ) → isLine line ≡ true → (length line ≤ longestLine) × (length line % 2 ≡ 0)
+unfolding isLine
+line-even line h =
+    let e = and-left (evenLine line) _ h in
+    (leb-true _ _ (and-left (leb (length line) longestLine) _ e), eqb-true _ _ (and-right (leb (length line) longestLine) _ e))
+
+pub bytes-count : (line : List ℕ) → length (bytesIn line) ≡ length line / 2
+unfolding bytesIn
+bytes-count line = table-length (byteAt line) (length line / 2)
+
+pub decoded-length : (line buffer : List ℕ) → length (decodedInto line buffer) ≡ length buffer
+unfolding decodedInto
+decoded-length line buffer = go (evenLine line)
+  where
+    go : (b : Bool) → length (cond b (sets buffer 0 (table (byteAt line) (firstBad (pairAt line) (length line / 2)))) buffer) ≡ length buffer
+    go true = length-sets buffer 0 (table (byteAt line) (firstBad (pairAt line) (length line / 2)))
+    go false = refl
+
+-- what a caller learns that finds bytes: the line is one, and its bytes stand at the buffer's start
+pub record Holds (line buffer : List ℕ) (n : ℕ) : Type 0 where
+  pub is-line : isLine line ≡ true
+  pub within : n ≤ mostBytes
+  pub bytes-are : take n (decodedInto line buffer) ≡ bytesIn line
+
+pub decoded-holds : (line buffer : List ℕ) (n : ℕ) → mostBytes ≤ length buffer → decodedOf line ≡ Decoded.Bytes n → Holds line buffer n
+unfolding decodedOf
+decoded-holds line buffer n room e = go (isLine line) refl e
+  where
+    go : (b : Bool) → isLine line ≡ b → cond b (Decoded.Bytes (length line / 2)) Decoded.Bad ≡ Decoded.Bytes n → Holds line buffer n
+    go false is f = absurd (let z : _≡_ {A = ℕ} 0 1 = cc in omega arith)
+    go true is f =
+        let half : length line / 2 ≡ n = cc in
+        having (line-even line is) (λ h.
+        let l : length (bytesIn line) ≡ n = bytes-count line ∙ half in
+        record {
+          is-line = is;
+          within = omega (arith, h .0);
+          bytes-are = rw (decoded-line line buffer (h .0) (h .1) is) (subst (λ (k : ℕ). take k (sets buffer 0 (bytesIn line)) ≡ bytesIn line) l (part-same (bytesIn line) buffer 0 (omega (arith, h .0))));
+        })
+
+pub decoded-none : (line : List ℕ) → decodedOf line ≡ Decoded.Bad → isLine line ≡ false
+unfolding decodedOf
+decoded-none line e = go (isLine line) refl e
+  where
+    go : (b : Bool) → isLine line ≡ b → cond b (Decoded.Bytes (length line / 2)) Decoded.Bad ≡ Decoded.Bad → isLine line ≡ false
+    go false is f = is
+    go true is f = absurd (let z : _≡_ {A = ℕ} 0 1 = cc in omega arith)

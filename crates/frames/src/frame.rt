@@ -1,0 +1,102 @@
+// The frames that the console reads: a first byte that says which, and numbers of fixed widths behind it.
+use crate::numbers::value_at;
+use calendar::Tick;
+ghost use mathlib.Core.Path.{_≡_};
+ghost use Prim.Native.Nat.{_≤_};
+ghost use lib.ListN.{length};
+ghost use Rattle.frames.specs.Frames.{taskIn, queueIn, goIn, sendIn, receiveIn, frameOf, payloadIn};
+
+// The payload of a send is not taken out: `payload_in` shows where it lies.
+pub enum Frame {
+    Task(u64, u64),
+    Queue(usize, u64),
+    Go,
+    Send(usize, usize, Tick),
+    Receive(usize, Tick),
+    Bad,
+}
+
+const PAYLOAD: usize = 8;
+
+fn task_in(bytes: &[u8]) -> Frame
+    ensures { λ r. ⌜ r ≡ taskIn (now (bytes .entry)) ⌝ }
+{
+    if bytes.len() != 5 {
+        return Frame::Bad;
+    }
+    Frame::Task(value_at(bytes, 1, 2), value_at(bytes, 3, 2))
+}
+
+fn queue_in(bytes: &[u8]) -> Frame
+    ensures { λ r. ⌜ r ≡ queueIn (now (bytes .entry)) ⌝ }
+{
+    if bytes.len() != 4 {
+        return Frame::Bad;
+    }
+    Frame::Queue(value_at(bytes, 1, 1) as usize, value_at(bytes, 2, 2))
+}
+
+fn go_in(bytes: &[u8]) -> Frame
+    ensures { λ r. ⌜ r ≡ goIn (now (bytes .entry)) ⌝ }
+{
+    if bytes.len() != 1 {
+        return Frame::Bad;
+    }
+    Frame::Go
+}
+
+fn send_in(bytes: &[u8]) -> Frame
+    ensures { λ r. ⌜ r ≡ sendIn (now (bytes .entry)) ⌝ }
+{
+    if bytes.len() < PAYLOAD {
+        return Frame::Bad;
+    }
+    let queue = value_at(bytes, 1, 1) as usize;
+    let task = value_at(bytes, 2, 1) as usize;
+    Frame::Send(queue, task, Tick(value_at(bytes, 3, 5)))
+}
+
+fn receive_in(bytes: &[u8]) -> Frame
+    ensures { λ r. ⌜ r ≡ receiveIn (now (bytes .entry)) ⌝ }
+{
+    if bytes.len() != 7 {
+        return Frame::Bad;
+    }
+    let queue = value_at(bytes, 1, 1) as usize;
+    Frame::Receive(queue, Tick(value_at(bytes, 2, 5)))
+}
+
+pub fn frame_of(bytes: &[u8]) -> Frame
+    ensures { λ r. ⌜ r ≡ frameOf (now (bytes .entry)) ⌝ }
+{
+    if bytes.len() == 0 {
+        return Frame::Bad;
+    }
+    let kind = bytes[0];
+    if kind == 0x01 {
+        return task_in(bytes);
+    }
+    if kind == 0x02 {
+        return queue_in(bytes);
+    }
+    if kind == 0x03 {
+        return go_in(bytes);
+    }
+    if kind == 0x04 {
+        return send_in(bytes);
+    }
+    if kind == 0x05 {
+        return receive_in(bytes);
+    }
+    Frame::Bad
+}
+
+// The payload of a send's frame, none where the frame is too short for one.
+pub fn payload_in(bytes: &[u8]) -> &[u8]
+    ensures { λ r. ⌜ now r ≡ payloadIn (now (bytes .entry)) ⌝ }
+{
+    if bytes.len() < PAYLOAD {
+        return &bytes[..0];
+    }
+    &bytes[PAYLOAD..]
+}

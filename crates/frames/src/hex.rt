@@ -1,0 +1,105 @@
+// Lower-case hexadecimal: the digits of a line as bytes, and bytes as digits.
+ghost use mathlib.Core.Path.{_≡_};
+ghost use mathlib.Core.List.{[], _∷_};
+ghost use Prim.Native.Nat.{_+_, _*_, _≤_, _<_};
+ghost use lib.ListN.{length};
+ghost use lib.Seq.{sets};
+ghost use Rattle.frames.specs.Hex.{digit, mostBytes, decodedOf, decodedInto, letter, digits};
+ghost use Rattle.frames.specs.HexLaws.{joined};
+
+// The longest line that is a frame, and the bytes that it holds.
+const LONGEST: usize = 100;
+
+pub const BYTES: usize = LONGEST / 2;
+
+// What a line holds: so many bytes, or it is no frame.
+pub enum Decoded {
+    Bytes(usize),
+    Bad,
+}
+
+// A digit's value, 16 for any other byte.
+fn value_of(c: u8) -> u8
+    ensures { λ r. ⌜ r ≡ digit c ⌝ }
+{
+    if c < b'0' {
+        return 16;
+    }
+    if c <= b'9' {
+        return c - b'0';
+    }
+    if c < b'a' {
+        return 16;
+    }
+    if c <= b'f' {
+        return c - b'a' + 10;
+    }
+    16
+}
+
+// The byte of two digits, 256 where one of them is none.
+fn byte_of(high: u8, low: u8) -> u16
+    ensures { λ r. ⌜ r ≡ joined high low ⌝ }
+{
+    let a = value_of(high);
+    if 15 < a {
+        return 256;
+    }
+    let b = value_of(low);
+    if 15 < b {
+        return 256;
+    }
+    (a as u16) * 16 + (b as u16)
+}
+
+// The bytes of a line, from the buffer's start on.
+pub fn decode(line: &[u8], bytes: &mut [u8]) -> Decoded
+    requires { ⌜ mostBytes ≤ length (now bytes) ⌝ }
+    ensures { λ r. ⌜ (r ≡ decodedOf (now (line .entry))) × (now (bytes .exit) ≡ decodedInto (now (line .entry)) (now (bytes .entry))) ⌝ }
+{
+    if LONGEST < line.len() {
+        return Decoded::Bad;
+    }
+    if line.len() % 2 != 0 {
+        return Decoded::Bad;
+    }
+    let n = line.len() / 2;
+    for k in 0..n {
+        let byte = byte_of(line[2 * k], line[2 * k + 1]);
+        if 255 < byte {
+            return Decoded::Bad;
+        }
+        bytes[k] = byte as u8;
+    }
+    Decoded::Bytes(n)
+}
+
+// The digit of a value below 16.
+fn letter_of(n: u8) -> u8
+    requires { ⌜ n < 16 ⌝ }
+    ensures { λ r. ⌜ r ≡ letter n ⌝ }
+{
+    if n < 10 {
+        return n + b'0';
+    }
+    n - 10 + b'a'
+}
+
+// A byte's two digits.
+pub fn put_byte(out: &mut [u8], at: usize, byte: u8)
+    requires { ⌜ at + 2 ≤ length (now out) ⌝ }
+    ensures { λ _. ⌜ now (out .exit) ≡ sets (now (out .entry)) at (digits (byte ∷ [])) ⌝ }
+{
+    out[at] = letter_of(byte / 16);
+    out[at + 1] = letter_of(byte % 16);
+}
+
+// The digits of all of `bytes`.
+pub fn put_bytes(out: &mut [u8], at: usize, bytes: &[u8])
+    requires { ⌜ at + 2 * length (now bytes) ≤ length (now out) ⌝ }
+    ensures { λ _. ⌜ now (out .exit) ≡ sets (now (out .entry)) at (digits (now (bytes .entry))) ⌝ }
+{
+    for k in 0..bytes.len() {
+        put_byte(out, at + 2 * k, bytes[k]);
+    }
+}

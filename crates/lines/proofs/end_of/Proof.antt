@@ -1,0 +1,43 @@
+use borrow.Author.Needs.{needs}
+use mathlib.Core.Path.{_≡_, sym, _∙_}
+use Prim.Native.Nat.{_-_}
+use lib.ListN.{length}
+use Rattle.lines.specs.Ends.{endOf, end-none, end-here, end-next}
+use Rattle.lines.proofs.end_of.Statement.{statement}
+use Rattle.lines.proofs.end_of.Tie as tie
+
+-- the line ends where it ends from i on
+abbrev Inv-loop : tie.InvT-loop
+Inv-loop piece from i₀ i = endOf piece i ≡ endOf piece from
+
+abbrev μ-loop : tie.MeasureT-loop
+μ-loop piece from i₀ i = length piece - i
+
+returns : tie.Need-returns Inv-loop μ-loop
+returns c =
+    let l = c .before .before .before .loop in
+    sym (end-here (c .before .before .before .before .args .piece .now) (l .i) (search needs) (c .if1 .taken)) ∙ l .inv
+
+loop-again : tie.Need-loop-again Inv-loop μ-loop
+loop-again c =
+    let l = c .before .before .before .loop in
+    end-next (c .before .before .before .before .args .piece .now) (l .i) (search needs) (c .if1 .left) ∙ l .inv
+
+returns-2 : tie.Need-returns-2 Inv-loop μ-loop
+returns-2 c =
+    let l = c .before .loop in
+    sym (end-none (c .before .before .args .piece .now) (l .i) (search needs)) ∙ l .inv
+
+pub end-of-spec : {M : Type 1} → statement M
+end-of-spec =
+    tie.close
+    (tie.spec
+    Inv-loop
+    μ-loop
+    (λ c. search needs)
+    (λ c. search needs)
+    returns
+    (λ c. search needs)
+    (λ c. search needs)
+    loop-again
+    returns-2)

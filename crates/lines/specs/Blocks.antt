@@ -1,0 +1,37 @@
+-- Feeding a text in any division into blocks gives the same lines, and the same carry, as feeding it whole.
+use Prim.Native.Nat.{ℕ}
+use mathlib.Core.Bool.{Bool, true, false}
+use mathlib.Core.List.{List, [], _∷_, _++_}
+use mathlib.Core.Path.{_≡_, refl, sym, ap, _∙_}
+use lib.Dec.{eqb}
+use Rattle.lines.specs.Lines.{lineFeed, cut, Fed, after, fed}
+
+-- one block after another
+unfoldable pub fedAll : List ℕ → List (List ℕ) → Fed
+fedAll c [] = record { carry = c; lines = [] }
+fedAll c (x ∷ xs) = after (fed c x .lines) (fedAll (fed c x .carry) xs)
+
+-- the text that the blocks are a division of
+unfoldable pub joined : List (List ℕ) → List ℕ
+joined [] = []
+joined (x ∷ xs) = x ++ joined xs
+
+pub fed-append : (c xs ys : List ℕ) → fed c (xs ++ ys) ≡ after (fed c xs .lines) (fed (fed c xs .carry) ys)
+unfolding fed
+fed-append c [] ys = refl
+fed-append c (b ∷ xs) ys = go (eqb b lineFeed) refl (fed-append [] xs ys) (fed-append (cut (c ++ (b ∷ []))) xs ys)
+  where
+    go : (t : Bool) → eqb b lineFeed ≡ t → fed [] (xs ++ ys) ≡ after (fed [] xs .lines) (fed (fed [] xs .carry) ys) →
+        fed (cut (c ++ (b ∷ []))) (xs ++ ys) ≡ after (fed (cut (c ++ (b ∷ []))) xs .lines) (fed (fed (cut (c ++ (b ∷ []))) xs .carry) ys) →
+        fed c (b ∷ (xs ++ ys)) ≡ after (fed c (b ∷ xs) .lines) (fed (fed c (b ∷ xs) .carry) ys)
+    go true e f g = rw (e, f)
+    go false e f g = rw (e, g)
+
+pub fed-blocks : (c : List ℕ) (xs : List (List ℕ)) → fedAll c xs ≡ fed c (joined xs)
+unfolding fedAll joined fed
+fed-blocks c [] = refl
+fed-blocks c (x ∷ xs) = rw (fed-blocks (fed c x .carry) xs) (sym (fed-append c x (joined xs)))
+
+-- two divisions of one text
+pub any-division : (c : List ℕ) (xs ys : List (List ℕ)) → joined xs ≡ joined ys → fedAll c xs ≡ fedAll c ys
+any-division c xs ys e = fed-blocks c xs ∙ ap (λ (t : List ℕ). fed c t) e ∙ sym (fed-blocks c ys)

@@ -1,0 +1,102 @@
+-- The carry buffer: its first `used` bytes are the carry. What it holds after a part of a line was put behind the carry, and the line
+-- that the carry and that part make.
+use Prim.Native.Nat.{ℕ, _+_, _-_, _<_, _≤_, min}
+use native.Mathlib.Omega.{arith}
+use mathlib.Core.Bool.{cond}
+use mathlib.Core.List.{List, _++_}
+use mathlib.Core.Logic.{⊎-elim}
+use mathlib.Core.Path.{_≡_, sym, ap, _∙_}
+use lib.Dec.{eqb, ltb}
+use lib.ListN.{length, take, drop, length-append, length-take}
+use lib.Seq.{take-all, take-take, take-length, length-take-le, sets, length-sets, sets-eq, take-append-add, take-at}
+use borrow.Author.Tests.{eq-eqb, ne-eqb, lt-ltb}
+use Rattle.common.specs.Tests.{lt-or-le}
+use Rattle.lines.specs.Lines.{kept, cut}
+
+abbrev pub keptOf : ℕ → List ℕ → ℕ
+keptOf used xs = min kept (used + length xs)
+
+unfoldable pub heldOf : List ℕ → ℕ → List ℕ → List ℕ
+heldOf held used xs = sets held used (take (kept - used) xs)
+
+-- the code counts how many bytes it takes
+pub take-least : (n : ℕ) (xs : List ℕ) → take (min n (length xs)) xs ≡ take n xs
+take-least n xs =
+    ⊎-elim (λ (h : n < length xs). let e : min n (length xs) ≡ n = omega arith in rw e)
+    (λ (h : length xs ≤ n).
+    let e : min n (length xs) ≡ length xs = omega arith in
+    rw (e, take-length xs) (sym (take-all n xs h)))
+    (lt-or-le n (length xs))
+
+-- the carry is then the cut of what it was with that part behind it
+pub held-carry :
+    (held : List ℕ) (used : ℕ) (xs : List ℕ) → used ≤ kept → kept ≤ length held →
+    take (keptOf used xs) (heldOf held used xs) ≡ cut (take used held ++ xs)
+unfolding heldOf cut
+held-carry held used xs u k = there ∙ sym back
+  where
+    p : List ℕ
+    p = take used held
+
+    ys : List ℕ
+    ys = take (kept - used) xs
+
+    p-length : length p ≡ used
+    p-length = length-take-le used held (omega arith)
+
+    ys-length : length ys ≡ min (kept - used) (length xs)
+    ys-length = length-take (kept - used) xs
+
+    there : take (keptOf used xs) (sets held used ys) ≡ p ++ ys
+    there =
+        rw (sets-eq ys held used (omega (arith, ys-length)))
+        (take-at (p ++ ys) (drop (used + length ys) held) (keptOf used xs) (omega (arith, length-append p ys, p-length, ys-length)))
+
+    back : take kept (p ++ xs) ≡ p ++ ys
+    back =
+        let e : kept ≡ length p + (kept - used) = omega (arith, p-length) in
+        ap (λ (n : ℕ). take n (p ++ xs)) e ∙ take-append-add p xs (kept - used)
+
+-- ## The line
+
+-- a line that no carry begun is not put into the buffer
+abbrev pub joinedOf : ℕ → List ℕ → ℕ
+joinedOf used xs = cond (eqb used 0) 0 (keptOf used xs)
+
+abbrev pub joinedIn : List ℕ → ℕ → List ℕ → List ℕ
+joinedIn held used xs = cond (eqb used 0) held (heldOf held used xs)
+
+-- the line stands at the buffer's start, or in the block
+abbrev pub lineOf : List ℕ → ℕ → List ℕ → List ℕ
+lineOf held n xs = cond (ltb 0 n) (take n held) (cut xs)
+
+-- the code counts its bytes
+pub cut-take : (n : ℕ) (l : List ℕ) → cut (take n l) ≡ take (min kept n) l
+unfolding cut
+cut-take n l =
+    ⊎-elim (λ (h : kept < n). let e : min kept n ≡ kept = omega arith in rw e (take-take kept n l (omega arith)))
+    (λ (h : n ≤ kept).
+    let e : min kept n ≡ n = omega arith in
+    rw e (take-all kept (take n l) (omega (arith, length-take n l))))
+    (lt-or-le kept n)
+
+-- it is the carry and the line's part of the block, cut
+pub line-is :
+    (held : List ℕ) (used : ℕ) (xs : List ℕ) → used ≤ kept → kept ≤ length held →
+    lineOf (joinedIn held used xs) (joinedOf used xs) xs ≡ cut (take used held ++ xs)
+line-is held used xs u k =
+    ⊎-elim (λ (h : 0 < used). rw (ne-eqb used 0 (omega arith), lt-ltb 0 (keptOf used xs) (omega arith)) (held-carry held used xs u k))
+    (λ (h : used ≤ 0). let e : used ≡ 0 = omega arith in rw e)
+    (lt-or-le 0 used)
+
+pub joined-le : (used : ℕ) (xs : List ℕ) → joinedOf used xs ≤ kept
+joined-le used xs =
+    ⊎-elim (λ (h : 0 < used). rw (ne-eqb used 0 (omega arith)) (omega arith)) (λ (h : used ≤ 0). rw (eq-eqb used 0 (omega arith)) (omega arith))
+    (lt-or-le 0 used)
+
+pub joined-length : (held : List ℕ) (used : ℕ) (xs : List ℕ) → length (joinedIn held used xs) ≡ length held
+unfolding heldOf
+joined-length held used xs =
+    ⊎-elim (λ (h : 0 < used). rw (ne-eqb used 0 (omega arith)) (length-sets held used (take (kept - used) xs)))
+    (λ (h : used ≤ 0). rw (eq-eqb used 0 (omega arith)))
+    (lt-or-le 0 used)

@@ -1,0 +1,35 @@
+-- Lines of a text that comes in blocks. Document 01: "reads lines of lower-case hexadecimal from standard input, one frame a line";
+-- "A last line without its end counts as a line". Any byte but the line feed belongs to a line.
+use Prim.Native.Nat.{ℕ}
+use mathlib.Core.Bool.{cond}
+use mathlib.Core.List.{List, [], _∷_, _++_}
+use lib.Dec.{eqb}
+use lib.ListN.{take}
+
+abbrev pub lineFeed : ℕ
+lineFeed = 10
+
+-- "over 100 digits" is answered in one way, so of a line 101 bytes are enough: the last of them says that it was longer
+abbrev pub kept : ℕ
+kept = 101
+
+unfoldable pub cut : List ℕ → List ℕ
+cut l = take kept l
+
+-- what a text leaves: the carry, which is the line that has not ended, and the lines that ended in it
+pub record Fed : Type 0 where
+  pub carry : List ℕ
+  pub lines : List (List ℕ)
+
+abbrev pub after : List (List ℕ) → Fed → Fed
+after ls f = record { carry = f .carry; lines = ls ++ f .lines }
+
+-- the first line that ends in the text was begun by the carry
+unfoldable pub fed : List ℕ → List ℕ → Fed
+fed c [] = record { carry = c; lines = [] }
+fed c (b ∷ bs) = cond (eqb b lineFeed) (after (c ∷ []) (fed [] bs)) (fed (cut (c ++ (b ∷ []))) bs)
+
+-- at the end of the input: a last line without its end, where at least one byte of it came
+abbrev pub ended : List ℕ → List (List ℕ)
+ended [] = []
+ended (b ∷ bs) = (b ∷ bs) ∷ []

@@ -1,0 +1,71 @@
+// Lines out of blocks. A line that lies inside a block is used where it stands; a line that has not ended is carried over to the next
+// block in a buffer that the caller lends, of which the first `used` bytes are the carry. The console answers every line of over 100
+// bytes in one way, so 101 bytes are kept of a line and the rest is let go.
+ghost use mathlib.Core.Path.{_≡_};
+ghost use Prim.Native.Nat.{_-_, _≤_, min};
+ghost use lib.ListN.{length};
+ghost use Rattle.common.specs.Stores.{part};
+ghost use Rattle.lines.specs.Lines.{kept};
+ghost use Rattle.lines.specs.Ends.{endOf};
+ghost use Rattle.lines.specs.Held.{keptOf, heldOf, joinedOf, joinedIn, lineOf};
+
+pub const KEPT: usize = 101;
+
+const LINE_FEED: u8 = 10;
+
+// The place of the first line feed from a place on, or the block's end.
+pub fn end_of(piece: &[u8], from: usize) -> usize
+    ensures { λ r. ⌜ r ≡ endOf (now (piece .entry)) from ⌝ }
+{
+    let mut i = from;
+    while i < piece.len() {
+        if piece[i] == LINE_FEED {
+            return i;
+        }
+        i += 1;
+    }
+    i
+}
+
+fn least(a: usize, b: usize) -> usize
+    ensures { λ r. ⌜ r ≡ min a b ⌝ }
+{
+    if a < b { a } else { b }
+}
+
+// Puts a part of a line behind the carry, as far as it is kept, and answers the carry's new length.
+pub fn keep(held: &mut [u8], used: usize, xs: &[u8]) -> usize
+    requires { ⌜ (used ≤ kept) × (kept ≤ length (now held)) ⌝ }
+    ensures { λ r. ⌜ (r ≡ keptOf used (now (xs .entry))) × (now (held .exit) ≡ heldOf (now (held .entry)) used (now (xs .entry))) ⌝ }
+{
+    let n = least(KEPT - used, xs.len());
+    for k in 0..n {
+        held[used + k] = xs[k];
+    }
+    used + n
+}
+
+// Where the line that ends at `to` was begun by a carry, puts its part of this block behind the carry; answers how many bytes of the
+// line stand in the buffer then, none where the whole line lies in the block.
+pub fn join(held: &mut [u8], used: usize, piece: &[u8], from: usize, to: usize) -> usize
+    requires { ⌜ (used ≤ kept) × (kept ≤ length (now held)) × (from ≤ to) × (to ≤ length (now piece)) ⌝ }
+    ensures { λ r. ⌜ (r ≡ joinedOf used (part (now (piece .entry)) from (to - from)))
+        × (now (held .exit) ≡ joinedIn (now (held .entry)) used (part (now (piece .entry)) from (to - from))) ⌝ }
+{
+    if used == 0 {
+        return 0;
+    }
+    keep(held, used, &piece[from..to])
+}
+
+// The line, where it stands.
+pub fn line_of<'a>(held: &'a [u8], n: usize, piece: &'a [u8], from: usize, to: usize) -> &'a [u8]
+    requires { ⌜ (n ≤ length (now held)) × (from ≤ to) × (to ≤ length (now piece)) ⌝ }
+    ensures { λ r. ⌜ now r ≡ lineOf (now (held .entry)) n (part (now (piece .entry)) from (to - from)) ⌝ }
+{
+    if 0 < n {
+        return &held[..n];
+    }
+    let end = from + least(KEPT, to - from);
+    &piece[from..end]
+}
