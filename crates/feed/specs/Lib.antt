@@ -2,7 +2,6 @@ pub mod Answers
 pub mod Feed
 pub mod Laws
 pub mod Outcome
-pub mod Fits
 pub mod Step
 pub mod Turns
 pub mod Session

@@ -12,7 +12,7 @@ use Rattle.console.specs.declared.Stepped.{Stepped}
 use Rattle.console.specs.Desk.{lineTurn, stepOf, Takes}
 use Rattle.lines.specs.Lines.{kept, cut}
 use Rattle.feed.specs.Feed.{enough}
-use Rattle.feed.specs.Fits.{line-taken}
+use Rattle.console.specs.Fits.{line-taken}
 
 -- a line that is cut is answered as the whole line is
 pub line-cut : (d : Desk) (m line : List ℕ) → lineTurn d m (cut line) ≡ lineTurn d m line

@@ -19,7 +19,7 @@ use Rattle.lines.specs.Held.{keptOf, heldOf, held-carry}
 use Rattle.feed.specs.Answers.{World, next, reply}
 use Rattle.feed.specs.Feed.{enough, Feeding, onward, feedOf}
 use Rattle.feed.specs.Laws.{lineFed, onward-onward, going-line, going-tail}
-use Rattle.feed.specs.Fits.{answer-fits}
+use Rattle.console.specs.Fits.{answer-fits}
 use Rattle.feed.specs.Step.{step-takes, room-of, put-sets}
 use Rattle.feed.specs.Outcome.{worldOf, Outcome}
 
