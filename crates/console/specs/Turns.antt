@@ -1,10 +1,10 @@
 -- Turns as the code takes them: what each test that it makes says of the turn, and what a started plan and a view allow.
-use Prim.Native.Nat.{ℕ, _+_, _*_, _/_, _^_, _<_, _≤_}
+use Prim.Native.Nat.{ℕ, _+_, _/_, _^_, _<_, _≤_}
 use native.Mathlib.Omega.{arith}
 use native.Mathlib.Nat.{div-div-eq-div-mul, pow-suc}
 use native.Mathlib.Numerals.{add-one}
 use mathlib.Core.Bool.{Bool, true, false, cond, _&&_}
-use mathlib.Core.List.{List, [], _∷_}
+use mathlib.Core.List.{List, []}
 use mathlib.Core.Logic.{_⊎_, inl, inr}
 use mathlib.Core.Path.{_≡_, refl, sym, ap, _∙_}
 use lib.ListN.{length, length-take, length-drop}
@@ -110,9 +110,18 @@ module _ (d : Desk) (m : List ℕ) where
   go-running h = when-true _ _ h
 
   -- the answer of planning decides
-  pub go-planned : (x : Planned) → d .running ≡ false → x ≡ planned d → goTurn d m ≡ planTurn d (x .plan) m (x .answer)
+  go-planned : (x : Planned) → d .running ≡ false → x ≡ planned d → goTurn d m ≡ planTurn d (x .plan) m (x .answer)
   unfolding goTurn
   go-planned x h e = when-false _ _ h ∙ ap (λ (y : Planned). planTurn d (y .plan) m (y .answer)) (sym e)
+
+  module _ (out : List ℕ) (x : Planned) (s : Stepped) (memory after : List ℕ) (stopped : d .running ≡ false) (is : x ≡ planned d) where
+    pub go-refused : (r : Refusal) (k : Desk) → x .answer ≡ Answer.Refused r → k ≡ newDesk → Takes (says k m (refusalBytes r)) out s memory after →
+        Takes (goTurn d m) out s memory after
+    go-refused r k e g t = rw (go-planned x stopped is, e) (rw g at t)
+
+    pub go-accepted : x .answer ≡ Answer.Accepted → Takes (startTurn d (x .plan) m (startAnswer (x .plan) m)) out s memory after →
+        Takes (goTurn d m) out s memory after
+    go-accepted e t = rw (go-planned x stopped is, e) t
 
 -- ## 04
 

@@ -1,8 +1,8 @@
 -- The frames that the console reads, "one frame a line, numbers high byte first". A frame is known by its first byte and its length.
 use Prim.Native.Nat.{ℕ}
-use mathlib.Core.Bool.{Bool, cond, not}
+use mathlib.Core.Bool.{cond}
 use mathlib.Core.List.{List}
-use lib.Dec.{leb, ltb, eqb}
+use lib.Dec.{ltb, eqb}
 use lib.ListN.{length, getD, drop}
 use Rattle.calendar.specs.Calendar.{tick}
 use Rattle.frames.specs.Numbers.{valueAt}

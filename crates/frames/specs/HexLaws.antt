@@ -2,13 +2,12 @@
 use Prim.Native.Nat.{ℕ, zero, suc, _+_, _-_, _*_, _/_, _%_, _<_, _≤_}
 use native.Mathlib.Omega.{arith}
 use native.Mathlib.Numerals.{add-one}
-use native.Mathlib.Nat.{div-add-mod'}
 use mathlib.Core.Bool.{Bool, true, false, cond, _&&_}
 use mathlib.Core.List.{List, [], _∷_, _++_}
 use mathlib.Core.Logic.{⊎-elim, inl, inr, _⊎_}
 use mathlib.Core.Path.{_≡_, refl, sym, ap, subst, _∙_}
-use lib.Dec.{leb, ltb, eqb}
-use lib.ListN.{length, getD, take, set, replicate, length-append}
+use lib.Dec.{leb, ltb}
+use lib.ListN.{length, getD, take, set}
 use lib.Seq.{sets, length-sets, length-take-le, take-suc}
 use borrow.Author.Tests.{lt-ltb, le-ltb, le-leb, lt-leb, eq-eqb, ne-eqb, leb-true, eqb-true}
 use Rattle.common.specs.Tests.{lt-or-le, having, and-left, and-right}
@@ -16,7 +15,7 @@ use Rattle.common.specs.Rows.{every, firstBad, firstBad-found, every-fails, eve
 use Rattle.common.specs.Table.{table, table-length}
 use Rattle.common.specs.Stores.{sets-append, part-same}
 use Rattle.frames.specs.declared.hex.Decoded.{Decoded}
-use Rattle.frames.specs.Hex.{noDigit, digit, digitAt, longestLine, mostBytes, evenLine, isLine, byteAt, bytesIn, pairAt, decodedOf, decodedInto, letter, digits}
+use Rattle.frames.specs.Hex.{noDigit, digit, digitAt, longestLine, mostBytes, evenLine, isLine, byteAt, bytesIn, pairAt, decodedOf, decodedInto, digits}
 
 -- ## A line's pairs
 

@@ -25,7 +25,7 @@ fn end_line(out: &mut [u8], at: usize) -> usize
     at + 1
 }
 
-// A line that does not say a thing about the table: what was read is no frame, or comes at the wrong time.
+// What was read is no frame, or comes at the wrong time.
 pub fn write_bad(out: &mut [u8]) -> usize
     requires { ⌜ longestAnswer ≤ length (now out) ⌝ }
     ensures { λ r. ⌜ Written badBytes (now (out .entry)) r (now (out .exit)) ⌝ }

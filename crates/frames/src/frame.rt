@@ -2,8 +2,6 @@
 use crate::numbers::value_at;
 use calendar::Tick;
 ghost use mathlib.Core.Path.{_≡_};
-ghost use Prim.Native.Nat.{_≤_};
-ghost use lib.ListN.{length};
 ghost use Rattle.frames.specs.Frames.{taskIn, queueIn, goIn, sendIn, receiveIn, frameOf, payloadIn};
 
 // The payload of a send is not taken out: `payload_in` shows where it lies.

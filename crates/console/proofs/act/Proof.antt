@@ -1,3 +1,4 @@
+-- `console::act`: a clause of the definition for each frame.
 use borrow.Author.Needs.{needs}
 use Rattle.console.specs.Turns.{by-frame}
 use Rattle.console.proofs.act.Statement.{statement}

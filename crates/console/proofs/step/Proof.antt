@@ -1,3 +1,4 @@
+-- `console::step`: a short buffer, a line that is none, and a line whose bytes lie at the start of the array.
 use borrow.Author.Needs.{needs}
 use native.Mathlib.Omega.{arith}
 use Prim.Native.Nat.{ℕ, _≤_}

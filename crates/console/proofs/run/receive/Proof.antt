@@ -1,3 +1,4 @@
+-- `console::run::receive`: the call's answer and state are those of the turn.
 use borrow.Author.Needs.{needs}
 use borrow.Author.Tests.{not-true, not-false}
 use Rattle.console.specs.Turns.{receive-stopped, receive-taken}

@@ -1,3 +1,4 @@
+-- `console::run::send`: the call's answer, state and memory are those of the turn.
 use borrow.Author.Needs.{needs}
 use borrow.Author.Tests.{not-true, not-false}
 use Rattle.console.specs.Turns.{send-stopped, send-taken}

@@ -1,3 +1,4 @@
+-- `console::run::write_received`: a line for each kind of answer; a view is no longer than a payload.
 use Prim.Native.Nat.{ℕ}
 use mathlib.Core.List.{List, [], _∷_}
 use types.Run.{OneOf, miss}

@@ -1,3 +1,4 @@
+-- `console::run::write_sent`: a line for each kind of answer.
 use borrow.Author.Needs.{needs}
 use Rattle.console.proofs.run.write_sent.Statement.{statement}
 use Rattle.console.proofs.run.write_sent.Tie as tie

@@ -1,3 +1,4 @@
+-- `console::squares::row_of`: a turn takes the lowest bit of what is left of the mask.
 use Prim.Native.Nat.{_-_, _/_, _^_, _≤_}
 use native.Mathlib.Omega.{arith}
 use mathlib.Core.Path.{_≡_}

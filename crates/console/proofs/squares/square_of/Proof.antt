@@ -1,3 +1,4 @@
+-- `console::squares::square_of`: the loop fills the square from the front, a row a turn.
 use Prim.Native.Nat.{ℕ, _-_, _≤_}
 use mathlib.Core.Path.{_≡_}
 use borrow.Author.Needs.{needs}

@@ -1,3 +1,4 @@
+-- `console::table::add_queue`: the tests of a row more, in their order.
 use borrow.Author.Needs.{needs}
 use mathlib.Core.Path.{refl}
 use borrow.Author.Tests.{le-leb, lt-leb}

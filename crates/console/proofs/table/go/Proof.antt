@@ -1,5 +1,6 @@
+-- `console::table::go`: the answer of planning decides.
 use borrow.Author.Needs.{needs}
-use Rattle.console.specs.Turns.{go-running, go-planned}
+use Rattle.console.specs.Turns.{go-running, go-refused, go-accepted}
 use Rattle.console.proofs.table.go.Statement.{statement}
 use Rattle.console.proofs.table.go.Tie as tie
 
@@ -17,7 +18,8 @@ returns-2 c =
     let n = g .before .before in
     let p = n .before in
     let a = p .before .before .before .before .args in
-    rw (go-planned (a .desk) (a .memory .now) _ (p .before .if1 .left) (p .plan-of .ensures), g .answer .given .1) (rw (n .new .ensures) at (w .refuse .ensures (a .memory .now)))
+    go-refused (a .desk) (a .memory .now) _ _ _ _ _ (p .before .if1 .left) (p .plan-of .ensures) _ _
+    (g .answer .given .1) (n .new .ensures) (w .refuse .ensures (a .memory .now))
 
 returns-3 : tie.Need-returns-3
 returns-3 c =
@@ -25,7 +27,7 @@ returns-3 c =
     let g = w .before .before .before .before in
     let p = g .before .before .before in
     let a = p .before .before .before .before .args in
-    rw (go-planned (a .desk) (a .memory .now) _ (p .before .if1 .left) (p .plan-of .ensures), g .enum-told .given .1) (w .start .ensures)
+    go-accepted (a .desk) (a .memory .now) _ _ _ _ _ (p .before .if1 .left) (p .plan-of .ensures) (g .enum-told .given .1) (w .start .ensures)
 
 pub go-spec : {M : Type 1} → statement M
 go-spec =

@@ -1,3 +1,4 @@
+-- `console::table::plan_of`: planning on the square of the masks.
 use borrow.Author.Needs.{needs}
 use Rattle.console.specs.Desk.{planned}
 use Rattle.console.proofs.table.plan_of.Statement.{statement}

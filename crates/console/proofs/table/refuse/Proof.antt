@@ -1,4 +1,4 @@
-use mathlib.Core.Path.{_≡_, refl, sym, ap, _∙_}
+-- `console::table::refuse`: the line of the refusal was written.
 use Rattle.console.specs.Turns.{written}
 use borrow.Author.Needs.{needs}
 use Rattle.console.proofs.table.refuse.Statement.{statement}

@@ -1,3 +1,4 @@
+-- `console::table::start`: the answer of start decides; a started plan has at most eight queues to tell of.
 use borrow.Author.Needs.{needs}
 use mathlib.Core.Path.{_∙_, sym, ap}
 use Rattle.mailbox.specs.declared.Starting.{Starting}

@@ -1,3 +1,4 @@
+-- `frames::answers::write_empty`: a line of one number.
 use borrow.Author.Needs.{needs}
 use native.Mathlib.Omega.{arith}
 use Rattle.frames.specs.Numbers.{inBytes}

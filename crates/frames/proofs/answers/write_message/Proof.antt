@@ -1,3 +1,4 @@
+-- `frames::answers::write_message`: a line of two numbers and the payload.
 use Prim.Native.Nat.{_+_, _*_}
 use borrow.Author.Needs.{needs}
 use native.Mathlib.Omega.{arith}

@@ -1,3 +1,4 @@
+-- `frames::answers::write_refusal`: a line of three numbers.
 use borrow.Author.Needs.{needs}
 use native.Mathlib.Omega.{arith}
 use Rattle.plan.specs.Refusals.{numberOf}

@@ -1,4 +1,5 @@
-use Prim.Native.Nat.{ℕ, _+_, _*_}
+-- `frames::answers::write_sizes`: a line of a number and the sizes.
+use Prim.Native.Nat.{_+_, _*_}
 use mathlib.Core.Path.{_≡_}
 use mathlib.Core.List.{_++_}
 use lib.ListN.{length, length-append}

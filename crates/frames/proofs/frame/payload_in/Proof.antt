@@ -1,3 +1,4 @@
+-- `frames::frame::payload_in`: what lies behind the first eight bytes, if anything does.
 use Prim.Native.Nat.{ℕ, _-_, _≤_}
 use native.Mathlib.Omega.{arith}
 use mathlib.Core.List.{List, []}
@@ -9,9 +10,6 @@ use borrow.Author.Needs.{needs}
 use Rattle.frames.proofs.frame.payload_in.Statement.{statement}
 use Rattle.frames.proofs.frame.payload_in.Tie as tie
 
-slice-aggregate-result : tie.Need-slice-aggregate-result
-slice-aggregate-result c = search needs
-
 -- nothing lies behind the end
 drop-past : (n : ℕ) (l : List ℕ) → length l ≤ n → drop n l ≡ []
 drop-past n l h = ext-getD 0 (drop n l) [] (simp length-drop (omega arith)) (λ k g. absurd (omega (arith, length-drop n l)))
@@ -19,15 +17,6 @@ drop-past n l h = ext-getD 0 (drop n l) [] (simp length-drop (omega arith)) (λ 
 returns : tie.Need-returns
 unfolding payloadIn
 returns c = sym (drop-past 8 (c .before .before .args .bytes .now) (search needs))
-
-sub-result : tie.Need-sub-result
-sub-result c = search needs
-
-part-result-start : tie.Need-part-result-start
-part-result-start c = search needs
-
-part-result-end : tie.Need-part-result-end
-part-result-end c = search needs
 
 returns-2 : tie.Need-returns-2
 unfolding payloadIn
@@ -37,9 +26,9 @@ pub payload-in-spec : {M : Type 1} → statement M
 payload-in-spec =
     tie.close
     (tie.spec
-    slice-aggregate-result
+    (λ c. search needs)
     returns
-    sub-result
-    part-result-start
-    part-result-end
+    (λ c. search needs)
+    (λ c. search needs)
+    (λ c. search needs)
     returns-2)

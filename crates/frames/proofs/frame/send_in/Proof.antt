@@ -1,19 +1,8 @@
+-- `frames::frame::send_in`: the length decides.
 use Rattle.common.specs.Tests.{tests}
 use borrow.Author.Needs.{needs}
 use Rattle.frames.proofs.frame.send_in.Statement.{statement}
 use Rattle.frames.proofs.frame.send_in.Tie as tie
-
-returns : tie.Need-returns
-returns c = search tests
-
-value-at-requires : tie.Need-value-at-requires
-value-at-requires c κs = search needs
-
-value-at-requires-2 : tie.Need-value-at-requires-2
-value-at-requires-2 c κs = search needs
-
-value-at-requires-3 : tie.Need-value-at-requires-3
-value-at-requires-3 c κs = search needs
 
 returns-2 : tie.Need-returns-2
 returns-2 c = rw (c .before .before .value-at .ensures, c .before .value-at2 .ensures, c .value-at3 .ensures) (search tests)
@@ -21,4 +10,4 @@ returns-2 c = rw (c .before .before .value-at .ensures, c .before .value-at2 .en
 pub send-in-spec : {M : Type 1} → statement M
 send-in-spec =
     tie.close
-    (tie.spec returns value-at-requires value-at-requires-2 value-at-requires-3 returns-2)
+    (tie.spec (λ c. search tests) (λ c κs. search needs) (λ c κs. search needs) (λ c κs. search needs) returns-2)

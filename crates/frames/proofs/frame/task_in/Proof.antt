@@ -1,19 +1,8 @@
+-- `frames::frame::task_in`: the length decides.
 use Rattle.common.specs.Tests.{tests}
 use borrow.Author.Needs.{needs}
 use Rattle.frames.proofs.frame.task_in.Statement.{statement}
 use Rattle.frames.proofs.frame.task_in.Tie as tie
 
-returns : tie.Need-returns
-returns c = search tests
-
-value-at-requires : tie.Need-value-at-requires
-value-at-requires c κs = search needs
-
-value-at-requires-2 : tie.Need-value-at-requires-2
-value-at-requires-2 c κs = search needs
-
-returns-2 : tie.Need-returns-2
-returns-2 c = search tests
-
 pub task-in-spec : {M : Type 1} → statement M
-task-in-spec = tie.close (tie.spec returns value-at-requires value-at-requires-2 returns-2)
+task-in-spec = tie.close (tie.spec (λ c. search tests) (λ c κs. search needs) (λ c κs. search needs) (λ c. search tests))

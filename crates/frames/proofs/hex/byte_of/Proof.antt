@@ -1,6 +1,5 @@
-use Prim.Native.Nat.{_≤_}
+-- `frames::hex::byte_of`: the tests of `joined`, in its order.
 use borrow.Author.Needs.{needs}
-use native.Mathlib.Omega.{arith}
 use Rattle.common.specs.Tests.{tests}
 use Rattle.frames.specs.HexLaws.{joined}
 use Rattle.frames.proofs.hex.byte_of.Statement.{statement}

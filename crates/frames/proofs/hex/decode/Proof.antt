@@ -1,15 +1,13 @@
-use Prim.Native.Nat.{ℕ, _-_, _*_, _/_, _+_, _≤_, _<_}
-use native.Mathlib.Omega.{arith}
-use mathlib.Core.Path.{_≡_, refl, sym, _∙_}
-use mathlib.Core.Bool.{true, false}
-use lib.ListN.{length, getD, length-set}
+-- `frames::hex::decode`: the loop fills the buffer from the front, and has met no pair but of digits.
+use Prim.Native.Nat.{_-_, _/_, _≤_}
+use mathlib.Core.Path.{_≡_, refl}
+use lib.ListN.{length, length-set}
 use lib.Seq.{sets}
 use borrow.Author.Needs.{needs}
-use Rattle.common.specs.Tests.{tests}
 use Rattle.common.specs.Table.{table}
-use Rattle.common.specs.Rows.{firstBad, firstBad-none, firstBad-more, firstBad-found}
-use Rattle.frames.specs.Hex.{byteAt, pairAt, isLine, decodedOf, decodedInto}
-use Rattle.frames.specs.HexLaws.{joined, joined-byte, joined-none, sets-table, decoded-long, decoded-odd, decoded-stops, decoded-all}
+use Rattle.common.specs.Rows.{firstBad, firstBad-none, firstBad-more}
+use Rattle.frames.specs.Hex.{byteAt, pairAt}
+use Rattle.frames.specs.HexLaws.{joined-byte, joined-none, sets-table, decoded-long, decoded-odd, decoded-stops, decoded-all}
 use Rattle.frames.proofs.hex.decode.Statement.{statement}
 use Rattle.frames.proofs.hex.decode.Tie as tie
 
@@ -40,9 +38,6 @@ returns-3 c =
     let none = joined-none line (l .loop .k) (rw (← c .before .byte-of .ensures) (search needs)) in
     rw (l .loop .inv .2)
     (decoded-stops line (a .bytes .now) (search needs) (l .before .if2 .left) (l .loop .k) (search needs) (l .loop .inv .3) none)
-
-cast-bytes : tie.Need-cast-bytes Inv-loop μ-loop
-cast-bytes c = search needs
 
 loop-again : tie.Need-loop-again Inv-loop μ-loop
 loop-again c =
@@ -82,7 +77,7 @@ decode-spec =
     (λ c κs. search needs)
     (λ c. search needs)
     returns-3
-    cast-bytes
+    (λ c. search needs)
     (λ c. search needs)
     (λ c. search needs)
     (λ c. search needs)

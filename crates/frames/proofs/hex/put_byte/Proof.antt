@@ -1,3 +1,4 @@
+-- `frames::hex::put_byte`: two stores are a run of two.
 use borrow.Author.Needs.{needs}
 use native.Mathlib.Omega.{arith}
 use native.Mathlib.Numerals.{add-one}

@@ -1,9 +1,9 @@
+-- `frames::hex::put_bytes`: a turn writes the digits of one byte more.
 use Prim.Native.Nat.{_-_, _≤_}
 use mathlib.Core.Path.{_≡_, refl, ap, _∙_}
 use lib.ListN.{length, take}
 use lib.Seq.{sets, take-all, length-sets}
 use borrow.Author.Needs.{needs}
-use native.Mathlib.Omega.{arith}
 use Rattle.frames.specs.Hex.{digits}
 use Rattle.frames.specs.HexLaws.{digits-more}
 use Rattle.frames.proofs.hex.put_bytes.Statement.{statement}

@@ -1,3 +1,4 @@
+-- `frames::hex::value_of`: a test of the definition for each test of the code.
 use borrow.Author.Needs.{needs}
 use Rattle.common.specs.Tests.{tests}
 use Rattle.frames.specs.Hex.{digit}

@@ -1,4 +1,5 @@
-use Prim.Native.Nat.{_+_, _*_, _-_, _≤_}
+-- `frames::numbers::put_number`: a turn writes the last byte of what is left.
+use Prim.Native.Nat.{_+_, _-_, _≤_}
 use mathlib.Core.Path.{_≡_, refl, sym, ap, _∙_}
 use native.Mathlib.Omega.{arith}
 use lib.ListN.{length}

@@ -1,7 +1,7 @@
-use Prim.Native.Nat.{_+_, _*_, _-_, _^_, _≤_, _<_}
-use mathlib.Core.Path.{_≡_, sym, _∙_}
+-- `frames::numbers::value_at`: a turn takes in one byte more, and the number stays below 256 to the bytes read.
+use Prim.Native.Nat.{_-_, _^_, _≤_, _<_}
+use mathlib.Core.Path.{_≡_, sym}
 use native.Mathlib.Omega.{arith}
-use lib.ListN.{length}
 use borrow.Author.Needs.{needs}
 use Rattle.frames.specs.Numbers.{valueAt}
 use Rattle.frames.specs.NumberLaws.{value-none, value-more, below-more, below-word}
