@@ -1,0 +1,27 @@
+use borrow.Author.Needs.{needs}
+use Prim.Native.Nat.{_-_, _≤_}
+use Rattle.trial_table.proofs.table.tasks_of.Statement.{statement}
+use Rattle.trial_table.proofs.table.tasks_of.Tie as tie
+
+abbrev Inv-loop : tie.InvT-loop
+Inv-loop line table₀ at₀ i₀ table at i = i ≤ 64
+
+abbrev μ-loop : tie.MeasureT-loop
+μ-loop line table₀ at₀ i₀ table at i = 64 - i
+
+pub tasks-of-spec : {M : Type 1} → statement M
+tasks-of-spec =
+    tie.close
+    (tie.spec
+    Inv-loop
+    μ-loop
+    (λ c κs. search needs)
+    (λ c. search needs)
+    (λ c κs. search needs)
+    (λ c κs. search needs)
+    (λ c. search needs)
+    (λ c κs. search needs)
+    (λ c. search needs)
+    (λ c. search needs)
+    (λ c. search needs)
+    (λ c. search needs))

@@ -1,0 +1,28 @@
+use borrow.Author.Needs.{needs}
+use lib.ListN.{length}
+use Prim.Native.Nat.{_-_}
+use Rattle.trial_text.proofs.text.number_from.Statement.{statement}
+use Rattle.trial_text.proofs.text.number_from.Tie as tie
+
+abbrev Inv-loop : tie.InvT-loop
+Inv-loop line from at₀ is-found value₀ at value = Unit {0}
+
+abbrev μ-loop : tie.MeasureT-loop
+μ-loop line from at₀ is-found value₀ at value = length line - at
+
+pub number-from-spec : {M : Type 1} → statement M
+number-from-spec =
+    tie.close
+    (tie.spec
+    Inv-loop
+    μ-loop
+    (λ c κs. search needs)
+    (λ c. search needs)
+    (λ c. search needs)
+    (λ c κs. search needs)
+    (λ c κs. search needs)
+    (λ c. search needs)
+    (λ c. search needs)
+    (λ c. search needs)
+    (λ c. search needs)
+    (λ c. search needs))
