@@ -1,4 +1,4 @@
--- `receiver::wanted_for`: the receiver's deadline, by the rule of today.
+-- `receiver::wanted_for`: the receiver's deadline.
 use mathlib.Core.Path.{refl}
 use borrow.Author.Needs.{needs}
 use Rattle.model.specs.Model.{wantedFor}
