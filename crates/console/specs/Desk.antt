@@ -22,7 +22,7 @@ use Rattle.mailbox.specs.declared.State.{State}
 use Rattle.mailbox.specs.declared.Started.{Started}
 use Rattle.mailbox.specs.declared.Sent.{Sent}
 use Rattle.mailbox.specs.declared.Received.{Received}
-use Rattle.frames.specs.Hex.{isLine, bytesIn}
+use Rattle.digits.specs.Hex.{isLine, bytesIn}
 use Rattle.frames.specs.Frames.{frameOf, payloadIn}
 use Rattle.frames.specs.Answers.{longestAnswer, sizesBytes, storedBytes, messageBytes, gapBytes, emptyBytes, refusalBytes, badBytes, lineOf}
 use Rattle.frames.specs.declared.frame.Frame.{Frame}

@@ -18,9 +18,9 @@ use Rattle.mailbox.specs.View.{viewOf}
 use Rattle.mailbox.specs.declared.Started.{Started}
 use Rattle.mailbox.specs.declared.Sent.{Sent}
 use Rattle.mailbox.specs.declared.Received.{Received}
-use Rattle.frames.specs.Hex.{longestLine, isLine, bytesIn}
+use Rattle.digits.specs.Hex.{longestLine, isLine, bytesIn}
+use Rattle.digits.specs.NumberLaws.{bytes-length}
 use Rattle.frames.specs.Frames.{frameOf, payloadIn}
-use Rattle.frames.specs.NumberLaws.{bytes-length}
 use Rattle.frames.specs.Writing.{line-length, sizes-length}
 use Rattle.frames.specs.Answers.{longestAnswer, sizesBytes, storedBytes, messageBytes, gapBytes, emptyBytes, refusalBytes, badBytes, lineOf}
 use Rattle.frames.specs.declared.frame.Frame.{Frame}

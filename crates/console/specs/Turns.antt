@@ -29,8 +29,8 @@ use Rattle.mailbox.specs.declared.Starting.{Starting}
 use Rattle.mailbox.specs.declared.Sending.{Sending}
 use Rattle.mailbox.specs.declared.Received.{Received}
 use Rattle.mailbox.specs.declared.Receiving.{Receiving}
+use Rattle.digits.specs.Hex.{isLine, bytesIn}
 use Rattle.frames.specs.Answers.{longestAnswer, messageBytes, refusalBytes, sizesBytes}
-use Rattle.frames.specs.Hex.{isLine, bytesIn}
 use Rattle.frames.specs.Frames.{frameOf, payloadIn}
 use Rattle.frames.specs.Writing.{Written}
 use Rattle.frames.specs.declared.frame.Frame.{Frame}

@@ -4,13 +4,13 @@ mod squares; // squares.rt: which task sends into which queue, from the sender m
 mod table; // table.rt: frames 01 to 03, until a plan is accepted
 mod run; // run.rt: frames 04 and 05, from then on
 
+use digits::hex::BYTES;
+use digits::hex::Decoded;
+use digits::hex::decode;
 use frames::answers::write_bad;
 use frames::frame::Frame;
 use frames::frame::frame_of;
 use frames::frame::payload_in;
-use frames::hex::BYTES;
-use frames::hex::Decoded;
-use frames::hex::decode;
 use mailbox::State;
 use plan::Plan;
 use run::receive;

@@ -4,8 +4,8 @@ use mathlib.Core.List.{List, [], _∷_, _++_}
 use lib.ListN.{getD}
 use Rattle.plan.specs.Refusals.{numberOf}
 use Rattle.plan.specs.declared.refusal.Refusal.{Refusal}
-use Rattle.frames.specs.Hex.{digits}
-use Rattle.frames.specs.Numbers.{inBytes}
+use Rattle.digits.specs.Hex.{digits}
+use Rattle.digits.specs.Numbers.{inBytes}
 
 -- "81 and each size (2)", of the first n queues
 unfoldable pub eachSize : List ℕ → ℕ → List ℕ

@@ -5,7 +5,7 @@ use mathlib.Core.List.{List}
 use lib.Dec.{ltb, eqb}
 use lib.ListN.{length, getD, drop}
 use Rattle.calendar.specs.Calendar.{tick}
-use Rattle.frames.specs.Numbers.{valueAt}
+use Rattle.digits.specs.Numbers.{valueAt}
 use Rattle.frames.specs.declared.frame.Frame.{Frame}
 
 abbrev pub ofSize : ℕ → List ℕ → Frame → Frame

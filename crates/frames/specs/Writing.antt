@@ -7,10 +7,10 @@ use mathlib.Core.Path.{_≡_, refl, _∙_}
 use lib.ListN.{length, getD, length-append}
 use lib.Seq.{sets}
 use Rattle.common.specs.Stores.{sets-append}
-use Rattle.frames.specs.Hex.{digits}
-use Rattle.frames.specs.HexLaws.{digits-append, digits-length}
-use Rattle.frames.specs.Numbers.{inBytes}
-use Rattle.frames.specs.NumberLaws.{bytes-length}
+use Rattle.digits.specs.Hex.{digits}
+use Rattle.digits.specs.HexLaws.{digits-append, digits-length}
+use Rattle.digits.specs.Numbers.{inBytes}
+use Rattle.digits.specs.NumberLaws.{bytes-length}
 use Rattle.frames.specs.Answers.{lineOf, eachSize}
 
 -- what a function that writes an answer's line leaves: how many bytes it wrote, and the buffer after

@@ -1,8 +1,8 @@
 // The lines that the console writes: each function puts one line at the start of `out` and says how many bytes it wrote.
-use crate::hex::put_bytes;
-use crate::numbers::put_number;
 use calendar::Number;
 use calendar::Slot;
+use digits::hex::put_bytes;
+use digits::numbers::put_number;
 use plan::Plan;
 use plan::refusal::Refusal;
 use plan::refusal::rule_number;
@@ -12,7 +12,7 @@ ghost use Prim.Native.Nat.{_+_, _≤_};
 ghost use lib.ListN.{length};
 ghost use lib.Seq.{sets};
 ghost use Rattle.plan.specs.Limits.{queueLimit, payloadBytes};
-ghost use Rattle.frames.specs.Hex.{digits};
+ghost use Rattle.digits.specs.Hex.{digits};
 ghost use Rattle.frames.specs.Answers.{longestAnswer, eachSize, sizesBytes, storedBytes, messageBytes, gapBytes, emptyBytes, refusalBytes, badBytes};
 ghost use Rattle.frames.specs.Writing.{Written};
 

@@ -1,6 +1,6 @@
 // The frames that the console reads: a first byte that says which, and numbers of fixed widths behind it.
-use crate::numbers::value_at;
 use calendar::Tick;
+use digits::numbers::value_at;
 ghost use mathlib.Core.Path.{_≡_};
 ghost use Rattle.frames.specs.Frames.{taskIn, queueIn, goIn, sendIn, receiveIn, frameOf, payloadIn};
 

@@ -1,14 +1,14 @@
 -- Where the next line of a block ends, and what feeding the block is in these terms.
-use Prim.Native.Nat.{ℕ, suc, _+_, _<_, _≤_}
+use Prim.Native.Nat.{ℕ, zero, suc, _+_, _<_, _≤_}
 use native.Mathlib.Omega.{arith}
 use native.Mathlib.Numerals.{add-one}
-use mathlib.Core.Bool.{Bool, true, false, cond}
+use mathlib.Core.Bool.{Bool, true, false, cond, true≢false}
 use mathlib.Core.List.{List, [], _∷_, _++_, append-assoc, append-nil}
 use mathlib.Core.Path.{_≡_, refl, ap, _∙_}
 use lib.Dec.{eqb}
 use lib.ListN.{length, take, drop, getD, drop-of-length-le}
 use lib.Seq.{drop-cons}
-use borrow.Author.Tests.{eq-eqb, ne-eqb}
+use borrow.Author.Tests.{eq-eqb, ne-eqb, eqb-false}
 use Rattle.lines.specs.Lines.{lineFeed, cut, after, fed}
 use Rattle.lines.specs.Whole.{cut-append, cut-short, cut-length}
 
@@ -81,3 +81,37 @@ fed-tail c (b ∷ bs) h l = go (eqb b lineFeed) refl (fed-tail (cut (c ++ (b ∷
         fed c (b ∷ bs) ≡ record { carry = cut (c ++ (b ∷ bs)); lines = [] }
     go true e f = absurd (omega (arith, rw e at l))
     go false e f = rw e (f (omega (arith, rw e at l)) ∙ rw (carry-more c b bs))
+
+-- ## Several bytes at once
+
+abbrev pub stride : ℕ
+stride = 16
+
+-- whether one of so many bytes, from a place on, is a line feed
+unfoldable pub feedIn : List ℕ → ℕ → ℕ → Bool
+feedIn p i zero = false
+feedIn p i (suc k) = cond (eqb (getD p (i + k) 0) lineFeed) true (feedIn p i k)
+
+pub feed-none : (p : List ℕ) (i : ℕ) → false ≡ feedIn p i 0
+unfolding feedIn
+feed-none p i = refl
+
+pub feed-here : (p : List ℕ) (i k : ℕ) → getD p (i + k) 0 ≡ lineFeed → true ≡ feedIn p i (k + 1)
+unfolding feedIn
+feed-here p i k e = rw (add-one k, eq-eqb (getD p (i + k) 0) lineFeed e)
+
+pub feed-next : (p : List ℕ) (i k : ℕ) → (getD p (i + k) 0 ≡ lineFeed → ⊥) → feedIn p i k ≡ feedIn p i (k + 1)
+unfolding feedIn
+feed-next p i k d = rw (add-one k, ne-eqb (getD p (i + k) 0) lineFeed d)
+
+-- bytes without a line feed may be passed over
+pub end-passes : (p : List ℕ) (i k : ℕ) → i + k ≤ length p → feedIn p i k ≡ false → endOf p (i + k) ≡ endOf p i
+unfolding feedIn
+end-passes p i zero l e = let z : i + 0 ≡ i = omega arith in rw z
+end-passes p i (suc k) l e = go (eqb (getD p (i + k) 0) lineFeed) refl (end-passes p i k (omega arith))
+  where
+    go : (b : Bool) → eqb (getD p (i + k) 0) lineFeed ≡ b → (feedIn p i k ≡ false → endOf p (i + k) ≡ endOf p i) → endOf p (i + suc k) ≡ endOf p i
+    go true h f = absurd (true≢false (rw h at e))
+    go false h f =
+        let z : i + suc k ≡ i + k + 1 = omega arith in
+        rw z (end-next p (i + k) (omega arith) (eqb-false _ _ h) ∙ f (rw h at e))

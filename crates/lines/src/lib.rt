@@ -2,22 +2,56 @@
 // block in a buffer that the caller lends, of which the first `used` bytes are the carry. The console answers every line of over 100
 // bytes in one way, so 101 bytes are kept of a line and the rest is let go.
 ghost use mathlib.Core.Path.{_≡_};
-ghost use Prim.Native.Nat.{_-_, _≤_, min};
+ghost use Prim.Native.Nat.{_+_, _-_, _≤_, min};
 ghost use lib.ListN.{length};
 ghost use Rattle.common.specs.Stores.{part};
 ghost use Rattle.lines.specs.Lines.{kept};
-ghost use Rattle.lines.specs.Ends.{endOf};
+ghost use Rattle.lines.specs.Ends.{stride, feedIn, endOf};
 ghost use Rattle.lines.specs.Held.{keptOf, heldOf, joinedOf, joinedIn, lineOf};
 
 pub const KEPT: usize = 101;
 
 const LINE_FEED: u8 = 10;
 
+// Bytes that are looked at together: a fixed count without a way out is compiled to one comparison.
+const STRIDE: usize = 16;
+
+// Whether one of the next bytes, a stride of them, is a line feed.
+fn near(piece: &[u8], from: usize) -> bool
+    requires { ⌜ from + stride ≤ length (now piece) ⌝ }
+    ensures { λ r. ⌜ r ≡ feedIn (now (piece .entry)) from stride ⌝ }
+{
+    let mut seen = false;
+    for k in 0..STRIDE {
+        if piece[from + k] == LINE_FEED {
+            seen = true;
+        }
+    }
+    seen
+}
+
+// Passes over strides that have no line feed: from the place that it answers on, the first line feed is the same.
+fn skip(piece: &[u8], from: usize) -> usize
+    ensures { λ r. ⌜ endOf (now (piece .entry)) r ≡ endOf (now (piece .entry)) from ⌝ }
+{
+    let mut i = from;
+    while i < piece.len() {
+        if piece.len() - i < STRIDE {
+            return i;
+        }
+        if near(piece, i) {
+            return i;
+        }
+        i += STRIDE;
+    }
+    i
+}
+
 // The place of the first line feed from a place on, or the block's end.
 pub fn end_of(piece: &[u8], from: usize) -> usize
     ensures { λ r. ⌜ r ≡ endOf (now (piece .entry)) from ⌝ }
 {
-    let mut i = from;
+    let mut i = skip(piece, from);
     while i < piece.len() {
         if piece[i] == LINE_FEED {
             return i;

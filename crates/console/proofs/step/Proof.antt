@@ -5,9 +5,9 @@ use Prim.Native.Nat.{ℕ, _≤_}
 use mathlib.Core.Path.{_≡_, refl, sym, ap, _∙_}
 use mathlib.Core.List.{List}
 use lib.ListN.{length, replicate, length-take}
-use Rattle.frames.specs.Hex.{decodedOf, decodedInto}
-use Rattle.frames.specs.declared.hex.Decoded.{Decoded}
-use Rattle.frames.specs.HexLaws.{decoded-length, decoded-holds, decoded-none}
+use Rattle.digits.specs.Hex.{decodedOf, decodedInto}
+use Rattle.digits.specs.declared.hex.Decoded.{Decoded}
+use Rattle.digits.specs.HexLaws.{decoded-length, decoded-holds, decoded-none}
 use Rattle.console.specs.Turns.{step-short, step-line, step-no-line}
 use Rattle.console.proofs.step.Statement.{statement}
 use Rattle.console.proofs.step.Tie as tie

@@ -15,18 +15,18 @@ abbrev μ-loop : tie.MeasureT-loop
 
 returns : tie.Need-returns Inv-loop μ-loop
 returns c =
-    let l = c .before .before .before .loop in
-    sym (end-here (c .before .before .before .before .args .piece .now) (l .i) (search needs) (c .if1 .taken)) ∙ l .inv
+    let l = c .before .before .before in
+    sym (end-here (l .before .before .before .args .piece .now) (l .loop .i) (search needs) (c .if1 .taken)) ∙ l .loop .inv
 
 loop-again : tie.Need-loop-again Inv-loop μ-loop
 loop-again c =
-    let l = c .before .before .before .loop in
-    end-next (c .before .before .before .before .args .piece .now) (l .i) (search needs) (c .if1 .left) ∙ l .inv
+    let l = c .before .before .before in
+    end-next (l .before .before .before .args .piece .now) (l .loop .i) (search needs) (c .if1 .left) ∙ l .loop .inv
 
 returns-2 : tie.Need-returns-2 Inv-loop μ-loop
 returns-2 c =
-    let l = c .before .loop in
-    sym (end-none (c .before .before .args .piece .now) (l .i) (search needs)) ∙ l .inv
+    let l = c .before in
+    sym (end-none (l .before .before .before .args .piece .now) (l .loop .i) (search needs)) ∙ l .loop .inv
 
 pub end-of-spec : {M : Type 1} → statement M
 end-of-spec =
@@ -34,6 +34,7 @@ end-of-spec =
     (tie.spec
     Inv-loop
     μ-loop
+    (λ c κs. search needs)
     (λ c. search needs)
     (λ c. search needs)
     returns

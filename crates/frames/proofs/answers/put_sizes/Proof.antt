@@ -4,7 +4,7 @@ use mathlib.Core.Path.{_≡_, refl, sym, ap, _∙_}
 use lib.ListN.{length}
 use lib.Seq.{sets, length-sets}
 use borrow.Author.Needs.{needs}
-use Rattle.frames.specs.Hex.{digits}
+use Rattle.digits.specs.Hex.{digits}
 use Rattle.frames.specs.Answers.{eachSize}
 use Rattle.frames.specs.Writing.{sizes-none, sizes-more}
 use Rattle.frames.proofs.answers.put_sizes.Statement.{statement}

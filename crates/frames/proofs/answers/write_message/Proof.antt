@@ -3,8 +3,8 @@ use Prim.Native.Nat.{_+_, _*_}
 use borrow.Author.Needs.{needs}
 use native.Mathlib.Omega.{arith}
 use lib.ListN.{length}
-use Rattle.frames.specs.Numbers.{inBytes}
-use Rattle.frames.specs.NumberLaws.{bytes-length}
+use Rattle.digits.specs.Numbers.{inBytes}
+use Rattle.digits.specs.NumberLaws.{bytes-length}
 use Rattle.frames.specs.Answers.{messageBytes}
 use Rattle.frames.specs.Writing.{three}
 use Rattle.frames.proofs.answers.write_message.Statement.{statement}

@@ -2,8 +2,8 @@
 use borrow.Author.Needs.{needs}
 use native.Mathlib.Omega.{arith}
 use Rattle.plan.specs.Refusals.{numberOf}
-use Rattle.frames.specs.Numbers.{inBytes}
-use Rattle.frames.specs.NumberLaws.{bytes-length}
+use Rattle.digits.specs.Numbers.{inBytes}
+use Rattle.digits.specs.NumberLaws.{bytes-length}
 use Rattle.frames.specs.Answers.{refusalBytes}
 use Rattle.frames.specs.Writing.{three}
 use Rattle.frames.proofs.answers.write_refusal.Statement.{statement}

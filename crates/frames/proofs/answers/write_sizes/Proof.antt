@@ -5,8 +5,8 @@ use mathlib.Core.List.{_++_}
 use lib.ListN.{length, length-append}
 use borrow.Author.Needs.{needs}
 use native.Mathlib.Omega.{arith}
-use Rattle.frames.specs.Numbers.{inBytes}
-use Rattle.frames.specs.NumberLaws.{bytes-length}
+use Rattle.digits.specs.Numbers.{inBytes}
+use Rattle.digits.specs.NumberLaws.{bytes-length}
 use Rattle.frames.specs.Answers.{eachSize, sizesBytes}
 use Rattle.frames.specs.Writing.{next, ended, sizes-length}
 use Rattle.frames.proofs.answers.write_sizes.Statement.{statement}

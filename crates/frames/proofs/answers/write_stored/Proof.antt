@@ -1,8 +1,8 @@
 -- `frames::answers::write_stored`: a line of three numbers.
 use borrow.Author.Needs.{needs}
 use native.Mathlib.Omega.{arith}
-use Rattle.frames.specs.Numbers.{inBytes}
-use Rattle.frames.specs.NumberLaws.{bytes-length}
+use Rattle.digits.specs.Numbers.{inBytes}
+use Rattle.digits.specs.NumberLaws.{bytes-length}
 use Rattle.frames.specs.Answers.{storedBytes}
 use Rattle.frames.specs.Writing.{three}
 use Rattle.frames.proofs.answers.write_stored.Statement.{statement}

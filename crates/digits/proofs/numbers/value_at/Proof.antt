@@ -1,12 +1,12 @@
--- `frames::numbers::value_at`: a turn takes in one byte more, and the number stays below 256 to the bytes read.
+-- `digits::numbers::value_at`: a turn takes in one byte more, and the number stays below 256 to the bytes read.
 use Prim.Native.Nat.{_-_, _^_, _≤_, _<_}
 use mathlib.Core.Path.{_≡_, sym}
 use native.Mathlib.Omega.{arith}
 use borrow.Author.Needs.{needs}
-use Rattle.frames.specs.Numbers.{valueAt}
-use Rattle.frames.specs.NumberLaws.{value-none, value-more, below-more, below-word}
-use Rattle.frames.proofs.numbers.value_at.Statement.{statement}
-use Rattle.frames.proofs.numbers.value_at.Tie as tie
+use Rattle.digits.specs.Numbers.{valueAt}
+use Rattle.digits.specs.NumberLaws.{value-none, value-more, below-more, below-word}
+use Rattle.digits.proofs.numbers.value_at.Statement.{statement}
+use Rattle.digits.proofs.numbers.value_at.Tie as tie
 
 abbrev Inv-loop : tie.InvT-loop
 Inv-loop bytes at width n₀ k₀ n k = (k ≤ width) × (n ≡ valueAt bytes at k) × (n < 256 ^ k)

@@ -8,9 +8,9 @@ use mathlib.Core.Path.{_≡_, refl, sym, ap, _∙_}
 use lib.ListN.{length, getD, set, length-append, List·getD-append}
 use lib.Seq.{sets, set-comm, getD-at}
 use Rattle.common.specs.Stores.{sets-append}
-use Rattle.frames.specs.Hex.{digits}
-use Rattle.frames.specs.HexLaws.{digits-append, digits-length}
-use Rattle.frames.specs.Numbers.{valueAt, inBytes}
+use Rattle.digits.specs.Hex.{digits}
+use Rattle.digits.specs.HexLaws.{digits-append, digits-length}
+use Rattle.digits.specs.Numbers.{valueAt, inBytes}
 
 -- ## Reading
 

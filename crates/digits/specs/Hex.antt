@@ -8,7 +8,7 @@ use lib.ListN.{length, getD}
 use lib.Seq.{sets}
 use Rattle.common.specs.Rows.{every, firstBad}
 use Rattle.common.specs.Table.{table}
-use Rattle.frames.specs.declared.hex.Decoded.{Decoded}
+use Rattle.digits.specs.declared.hex.Decoded.{Decoded}
 
 -- a lower-case digit's value, 16 for any other byte
 abbrev pub noDigit : ℕ

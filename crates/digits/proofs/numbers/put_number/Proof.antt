@@ -1,15 +1,15 @@
--- `frames::numbers::put_number`: a turn writes the last byte of what is left.
+-- `digits::numbers::put_number`: a turn writes the last byte of what is left.
 use Prim.Native.Nat.{_+_, _-_, _≤_}
 use mathlib.Core.Path.{_≡_, refl, sym, ap, _∙_}
 use native.Mathlib.Omega.{arith}
 use lib.ListN.{length}
 use lib.Seq.{sets, length-sets}
 use borrow.Author.Needs.{needs}
-use Rattle.frames.specs.Hex.{digits}
-use Rattle.frames.specs.Numbers.{inBytes}
-use Rattle.frames.specs.NumberLaws.{write-none, write-more}
-use Rattle.frames.proofs.numbers.put_number.Statement.{statement}
-use Rattle.frames.proofs.numbers.put_number.Tie as tie
+use Rattle.digits.specs.Hex.{digits}
+use Rattle.digits.specs.Numbers.{inBytes}
+use Rattle.digits.specs.NumberLaws.{write-none, write-more}
+use Rattle.digits.proofs.numbers.put_number.Statement.{statement}
+use Rattle.digits.proofs.numbers.put_number.Tie as tie
 
 -- what is left to write leads to the same end
 abbrev Inv-loop : tie.InvT-loop

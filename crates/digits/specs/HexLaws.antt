@@ -14,8 +14,8 @@ use Rattle.common.specs.Tests.{lt-or-le, having, and-left, and-right}
 use Rattle.common.specs.Rows.{every, firstBad, firstBad-found, every-fails, every-firstBad}
 use Rattle.common.specs.Table.{table, table-length}
 use Rattle.common.specs.Stores.{sets-append, part-same}
-use Rattle.frames.specs.declared.hex.Decoded.{Decoded}
-use Rattle.frames.specs.Hex.{noDigit, digit, digitAt, longestLine, mostBytes, evenLine, isLine, byteAt, bytesIn, pairAt, decodedOf, decodedInto, digits}
+use Rattle.digits.specs.declared.hex.Decoded.{Decoded}
+use Rattle.digits.specs.Hex.{noDigit, digit, digitAt, longestLine, mostBytes, evenLine, isLine, byteAt, bytesIn, pairAt, decodedOf, decodedInto, digits}
 
 -- ## A line's pairs
 
@@ -49,6 +49,26 @@ unfolding isLine
 line-by-pairs line l e =
     rw (le-leb (length line) longestLine l, eq-eqb (length line % 2) 0 e)
     (ap (every (digitAt line)) (sym (halves line e)) ∙ pairs-are line (length line / 2))
+
+-- ## A digit's value by two wrapped differences, as the code reckons it: from '0', and from 'a'
+
+pub digit-decimal : (c d : ℕ) → (d + 0x30) % 256 ≡ c → d < 10 → d ≡ digit c
+unfolding digit
+digit-decimal c d e h = rw (le-ltb c 0x30 (omega arith), le-leb c 0x39 (omega arith)) (omega arith)
+
+pub digit-letter : (c l : ℕ) → (l + 0x61) % 256 ≡ c → l < 6 → l + 10 ≡ digit c
+unfolding digit
+digit-letter c l e h =
+    rw (le-ltb c 0x30 (omega arith), lt-leb c 0x39 (omega arith), le-ltb c 0x61 (omega arith), le-leb c 0x66 (omega arith)) (omega arith)
+
+pub digit-none : (c d l : ℕ) → (d + 0x30) % 256 ≡ c → (l + 0x61) % 256 ≡ c → 10 ≤ d → d < 256 → 6 ≤ l → l < 256 → noDigit ≡ digit c
+unfolding digit
+digit-none c d l e f g h i j = go (lt-or-le c 0x30) (lt-or-le c 0x61)
+  where
+    go : (c < 0x30) ⊎ (0x30 ≤ c) → (c < 0x61) ⊎ (0x61 ≤ c) → noDigit ≡ digit c
+    go (inl x) y = rw (lt-ltb c 0x30 x)
+    go (inr x) (inl y) = rw (le-ltb c 0x30 x, lt-leb c 0x39 (omega arith), lt-ltb c 0x61 y)
+    go (inr x) (inr y) = rw (le-ltb c 0x30 x, lt-leb c 0x39 (omega arith), le-ltb c 0x61 y, lt-leb c 0x66 (omega arith))
 
 -- ## The byte of two digits, as the code reckons it: 256 where one of them is none
 

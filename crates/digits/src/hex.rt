@@ -4,8 +4,8 @@ ghost use mathlib.Core.List.{[], _∷_};
 ghost use Prim.Native.Nat.{_+_, _*_, _≤_, _<_};
 ghost use lib.ListN.{length};
 ghost use lib.Seq.{sets};
-ghost use Rattle.frames.specs.Hex.{digit, mostBytes, decodedOf, decodedInto, letter, digits};
-ghost use Rattle.frames.specs.HexLaws.{joined};
+ghost use Rattle.digits.specs.Hex.{digit, mostBytes, decodedOf, decodedInto, letter, digits};
+ghost use Rattle.digits.specs.HexLaws.{joined};
 
 // The longest line that is a frame, and the bytes that it holds.
 const LONGEST: usize = 100;
@@ -18,23 +18,14 @@ pub enum Decoded {
     Bad,
 }
 
-// A digit's value, 16 for any other byte.
+// A digit's value, 16 for any other byte. Both guesses are reckoned before one is chosen, so that no branch hangs on the digit.
 fn value_of(c: u8) -> u8
     ensures { λ r. ⌜ r ≡ digit c ⌝ }
 {
-    if c < b'0' {
-        return 16;
-    }
-    if c <= b'9' {
-        return c - b'0';
-    }
-    if c < b'a' {
-        return 16;
-    }
-    if c <= b'f' {
-        return c - b'a' + 10;
-    }
-    16
+    let decimal = std::num::wrapping_sub_u8(c, b'0');
+    let letter = std::num::wrapping_sub_u8(c, b'a');
+    let other = if letter < 6 { letter + 10 } else { 16 };
+    if decimal < 10 { decimal } else { other }
 }
 
 // The byte of two digits, 256 where one of them is none.
@@ -42,10 +33,10 @@ fn byte_of(high: u8, low: u8) -> u16
     ensures { λ r. ⌜ r ≡ joined high low ⌝ }
 {
     let a = value_of(high);
+    let b = value_of(low);
     if 15 < a {
         return 256;
     }
-    let b = value_of(low);
     if 15 < b {
         return 256;
     }

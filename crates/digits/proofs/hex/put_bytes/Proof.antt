@@ -1,13 +1,13 @@
--- `frames::hex::put_bytes`: a turn writes the digits of one byte more.
+-- `digits::hex::put_bytes`: a turn writes the digits of one byte more.
 use Prim.Native.Nat.{_-_, _≤_}
 use mathlib.Core.Path.{_≡_, refl, ap, _∙_}
 use lib.ListN.{length, take}
 use lib.Seq.{sets, take-all, length-sets}
 use borrow.Author.Needs.{needs}
-use Rattle.frames.specs.Hex.{digits}
-use Rattle.frames.specs.HexLaws.{digits-more}
-use Rattle.frames.proofs.hex.put_bytes.Statement.{statement}
-use Rattle.frames.proofs.hex.put_bytes.Tie as tie
+use Rattle.digits.specs.Hex.{digits}
+use Rattle.digits.specs.HexLaws.{digits-more}
+use Rattle.digits.proofs.hex.put_bytes.Statement.{statement}
+use Rattle.digits.proofs.hex.put_bytes.Tie as tie
 
 abbrev Inv-loop : tie.InvT-loop
 Inv-loop out₀ at bytes k₀ k-end out k =

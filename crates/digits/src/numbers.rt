@@ -4,9 +4,9 @@ ghost use mathlib.Core.Path.{_≡_};
 ghost use Prim.Native.Nat.{_+_, _-_, _*_, _%_, _^_, _≤_, _<_};
 ghost use lib.ListN.{length};
 ghost use lib.Seq.{sets};
-ghost use Rattle.frames.specs.Hex.{digits};
-ghost use Rattle.frames.specs.Numbers.{valueAt, inBytes};
-ghost use Rattle.frames.specs.NumberLaws.{widest};
+ghost use Rattle.digits.specs.Hex.{digits};
+ghost use Rattle.digits.specs.Numbers.{valueAt, inBytes};
+ghost use Rattle.digits.specs.NumberLaws.{widest};
 
 fn wide(byte: u8) -> u64
     ensures { λ r. ⌜ (r ≡ byte) × (r < 256) ⌝ }

@@ -1,11 +1,11 @@
--- `frames::hex::put_byte`: two stores are a run of two.
+-- `digits::hex::put_byte`: two stores are a run of two.
 use borrow.Author.Needs.{needs}
 use native.Mathlib.Omega.{arith}
 use native.Mathlib.Numerals.{add-one}
 use lib.ListN.{length-set}
-use Rattle.frames.specs.Hex.{digits}
-use Rattle.frames.proofs.hex.put_byte.Statement.{statement}
-use Rattle.frames.proofs.hex.put_byte.Tie as tie
+use Rattle.digits.specs.Hex.{digits}
+use Rattle.digits.proofs.hex.put_byte.Statement.{statement}
+use Rattle.digits.proofs.hex.put_byte.Tie as tie
 
 returns : tie.Need-returns
 unfolding digits

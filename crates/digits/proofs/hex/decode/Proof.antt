@@ -1,4 +1,4 @@
--- `frames::hex::decode`: the loop fills the buffer from the front, and has met no pair but of digits.
+-- `digits::hex::decode`: the loop fills the buffer from the front, and has met no pair but of digits.
 use Prim.Native.Nat.{_-_, _/_, _≤_}
 use mathlib.Core.Path.{_≡_, refl}
 use lib.ListN.{length, length-set}
@@ -6,10 +6,10 @@ use lib.Seq.{sets}
 use borrow.Author.Needs.{needs}
 use Rattle.common.specs.Table.{table}
 use Rattle.common.specs.Rows.{firstBad, firstBad-none, firstBad-more}
-use Rattle.frames.specs.Hex.{byteAt, pairAt}
-use Rattle.frames.specs.HexLaws.{joined-byte, joined-none, sets-table, decoded-long, decoded-odd, decoded-stops, decoded-all}
-use Rattle.frames.proofs.hex.decode.Statement.{statement}
-use Rattle.frames.proofs.hex.decode.Tie as tie
+use Rattle.digits.specs.Hex.{byteAt, pairAt}
+use Rattle.digits.specs.HexLaws.{joined-byte, joined-none, sets-table, decoded-long, decoded-odd, decoded-stops, decoded-all}
+use Rattle.digits.proofs.hex.decode.Statement.{statement}
+use Rattle.digits.proofs.hex.decode.Tie as tie
 
 abbrev Inv-loop : tie.InvT-loop
 Inv-loop line bytes₀ n k₀ bytes k =

@@ -1,0 +1,4 @@
+pub mod Hex
+pub mod HexLaws
+pub mod Numbers
+pub mod NumberLaws

@@ -1,0 +1,35 @@
+use borrow.Author.Needs.{needs}
+use mathlib.Core.Path.{_≡_, sym, _∙_}
+use Prim.Native.Nat.{_-_}
+use lib.ListN.{length}
+use Rattle.lines.specs.Ends.{stride, endOf, end-passes}
+use Rattle.lines.proofs.skip.Statement.{statement}
+use Rattle.lines.proofs.skip.Tie as tie
+
+-- the line ends where it ends from i on
+abbrev Inv-loop : tie.InvT-loop
+Inv-loop piece from i₀ i = endOf piece i ≡ endOf piece from
+
+abbrev μ-loop : tie.MeasureT-loop
+μ-loop piece from i₀ i = length piece - i
+
+loop-again : tie.Need-loop-again Inv-loop μ-loop
+loop-again c =
+    let l = c .before .before .before .before in
+    end-passes (l .before .before .args .piece .now) (l .loop .i) stride (search needs) (sym (c .before .near .ensures) ∙ c .if2 .left) ∙ l .loop .inv
+
+pub skip-spec : {M : Type 1} → statement M
+skip-spec =
+    tie.close
+    (tie.spec
+    Inv-loop
+    μ-loop
+    (λ c. search needs)
+    (λ c. search needs)
+    (λ c. search needs)
+    (λ c κs. search needs)
+    (λ c. search needs)
+    (λ c. search needs)
+    (λ c. search needs)
+    loop-again
+    (λ c. search needs))
