@@ -1,34 +1,38 @@
 // The library's calls in plain text, on any plan value, state value and memory, damaged ones
 // too, for test expectations.
 //
-// Input, one line each; empty lines and lines from # on are left out:
+// Input, one line each; empty lines and lines from # on are left out. No two commands, and no
+// two fields of a command, have the same first letter: the program under test reads no more.
 //   tasks P/D P/D ..     begins a new table with these tasks; no queue yet
 //   queue R s s s        adds a queue: the receiver's row, then the senders' rows
-//   plan                 prints `sizes a b c`, or `refused NO ROW`; the plan made becomes the
-//                        current plan, all zeros where refused
-//   set FIELD V          alters the current plan: tasks, queues
-//   set FIELD INDEX V    period, deadline (16 each), receiver, size, place (8 each),
-//                        sends (128, queue * 16 + task, V is 0 or 1)
+//   plan                 prints `slots SIZE PLACE` for each queue, or `refused NO ROW`; the plan
+//                        made becomes the current plan, all zeros where refused
+//   alter FIELD V        alters the current plan: tasks, queues
+//   alter FIELD INDEX V  period, deadline (16 each), receiver, length, offset (8 each: size and
+//                        place), sends (128, queue * 16 + task, V is 0 or 1)
+//   force tick V         alters the current state: its tick
+//   force FIELD INDEX V  sent (128, queue * 16 + task: the job after the last one sent, 0 for
+//                        none), reading (8: the next number to read, 0 fresh)
 //   memory LENGTH BYTE   new memory of LENGTH bytes (up to 40,000), all BYTE
-//   tick T               alters the current state: its tick
-//   sent Q I V           the job after the last one sent by task I on queue Q, 0 for none
-//   reading Q V          the next number to read on queue Q, 0 fresh
-//   start                prints `ready` or `refused NO`; the state is fresh after it
+//   init                 the call start: prints `ready`; the state is fresh after it
 //   send Q I T LEN FIRST queue, task, tick, LEN payload bytes FIRST, FIRST + 1, .. mod 256:
-//                        prints `stored NUMBER SLOT` (slot within its queue) or `refused NO`
+//                        prints `stored NUMBER SLOT` (slot within its queue)
 //   receive Q T          prints `message NUMBER SLOT` (slot from the start of memory),
-//                        `gap NUMBER ROW`, `empty` or `refused NO`; kept for view
-//   show NUMBER SLOT     the kept answer is this message
+//                        `gap NUMBER ROW` or `empty`; kept for view
+//   keep NUMBER SLOT     the kept answer is this message
 //   view LEN BYTE        the view of the kept answer, the filler being LEN bytes, all BYTE:
 //                        prints `bytes ` and lower-case digits, or `none` for the empty part
 //   digest               prints `state A memory LENGTH B`; see `digest` below
-//   number q i k         queue, task, job: prints the message number, or `refused NO`
-//   back q n             queue, message number: prints sender and job, or `refused NO`
-//   window q m           queue, job of its receiver: prints first and last, or `refused NO`
-// At the beginning plan and state are all zeros, the memory has no byte, and the kept answer is
+//   number q i k         queue, task, job: prints the message number
+//   back q n             queue, message number: prints sender and job
+//   window q m           queue, job of its receiver: prints first and last
+// Every call and lookup may print `refused NO 0` instead: document 01 names no row there. At the
+// beginning plan and state are all zeros, the memory has no byte, and the kept answer is
 // `empty`. `tasks` and `queue` leave the current plan alone until `plan`. All numbers are
-// decimal and up to 2^64 - 1.
+// decimal and up to 2^64 - 1. A lookup on a plan as planning made it is reckoned in two ways,
+// here and in lookups.rs, and the program stops if they differ.
 
+use crate::lookups;
 use crate::lookups::{planned, read_number, read_queue, read_tasks};
 use crate::model::{plan, Plan, Table};
 use crate::model::{LAST_TICK, MOST_PERIOD, MOST_QUEUES, MOST_SLOTS, MOST_TASKS, PAYLOAD};
@@ -66,6 +70,8 @@ enum Answer {
 
 struct Calls {
     table: Table,
+    /// The current plan as planning made it; none once it is altered.
+    made: Option<Plan>,
     plan: PlanValue,
     memory: Vec<u8>,
     state: State,
@@ -77,6 +83,7 @@ pub fn answers(text: &str) -> Result<String, String> {
     let mut output = String::new();
     let mut calls = Calls {
         table: Table::default(),
+        made: None,
         plan: PlanValue::zeros(),
         memory: Vec::new(),
         state: State::fresh(),
@@ -102,10 +109,16 @@ impl Calls {
             ["queue", rows @ ..] => self.table.queues.push(read_queue(rows)?),
             ["plan"] => {
                 let made = plan(&self.table);
+                let text = planned(&made);
                 self.plan = made.as_ref().map_or(PlanValue::zeros(), PlanValue::of);
-                return Ok(Some(planned(&made)));
+                self.made = made.ok();
+                return Ok(Some(text));
             }
-            ["set", field, values @ ..] => self.plan.set(field, &read_numbers(values)?)?,
+            ["force", field, values @ ..] => self.state.set(field, &read_numbers(values)?)?,
+            ["alter", field, values @ ..] => {
+                self.made = None;
+                self.plan.set(field, &read_numbers(values)?)?
+            }
             [name, values @ ..] => return self.call(name, &read_numbers(values)?),
         }
         Ok(None)
@@ -117,23 +130,11 @@ impl Calls {
                 self.memory = vec![byte as u8; length as usize];
                 return Ok(None);
             }
-            ("tick", &[tick]) => {
-                self.state.tick = tick;
-                return Ok(None);
-            }
-            ("sent", &[queue @ 0..=7, task @ 0..=15, value]) => {
-                self.state.sent[flat(queue, task)] = value;
-                return Ok(None);
-            }
-            ("reading", &[queue @ 0..=7, value]) => {
-                self.state.reading[queue as usize] = value;
-                return Ok(None);
-            }
-            ("show", &[number, slot]) => {
+            ("keep", &[number, slot]) => {
                 self.kept = Answer::Message { number, slot };
                 return Ok(None);
             }
-            ("start", &[]) => self.start(),
+            ("init", &[]) => self.start(),
             ("send", &[queue, task, tick, length, first]) => self.send(queue, task, tick, length, first),
             ("receive", &[queue, tick]) => {
                 self.kept = self.receive(queue, tick);
@@ -141,12 +142,33 @@ impl Calls {
             }
             ("view", &[length, byte @ 0..=255]) => Ok(self.view(length, byte as u8)),
             ("digest", &[]) => Ok(self.digest()),
-            ("number", &[queue, task, job]) => self.plan.number(queue, task, job),
-            ("back", &[queue, number]) => self.plan.back(queue, number),
-            ("window", &[queue, job]) => self.plan.window(queue, job),
+            ("number", &[queue, task, job]) => {
+                let answer = self.plan.number(queue, task, job);
+                self.agree(answer, |plan| lookups::number(plan, queue, task, job))
+            }
+            ("back", &[queue, number]) => {
+                let answer = self.plan.back(queue, number);
+                self.agree(answer, |plan| lookups::back(plan, queue, number))
+            }
+            ("window", &[queue, job]) => {
+                let answer = self.plan.window(queue, job);
+                self.agree(answer, |plan| lookups::window(plan, queue, job))
+            }
             _ => return Err(format!("no such command: {name} with {values:?}")),
         };
-        Ok(Some(answer.unwrap_or_else(|rule| format!("refused {rule}"))))
+        Ok(Some(answer.unwrap_or_else(refused)))
+    }
+
+    /// A lookup's answer, held to the one by laps where the plan is as planning made it.
+    fn agree(
+        &self,
+        answer: Result<String, u8>,
+        by_laps: impl Fn(&Plan) -> Result<String, u8>,
+    ) -> Result<String, u8> {
+        if let Some(made) = &self.made {
+            assert_eq!(answer, by_laps(made), "the two ways of a lookup differ");
+        }
+        answer
     }
 
     /// Refusals in the order 7, 8. A refused start gives the fresh state too.
@@ -286,6 +308,10 @@ fn digest(values: &[u64]) -> u64 {
     sum
 }
 
+fn refused(rule: u8) -> String {
+    format!("refused {rule} 0")
+}
+
 fn flat(queue: u64, task: u64) -> usize {
     queue as usize * MOST_TASKS + task as usize
 }
@@ -298,6 +324,16 @@ impl State {
     fn fresh() -> State {
         State { tick: 0, sent: [0; MOST_QUEUES * MOST_TASKS], reading: [0; MOST_QUEUES] }
     }
+
+    fn set(&mut self, field: &str, values: &[u64]) -> Result<(), String> {
+        match (field, values) {
+            ("tick", &[value]) => self.tick = value,
+            ("sent", &[place @ 0..=127, value]) => self.sent[place as usize] = value,
+            ("reading", &[queue @ 0..=7, value]) => self.reading[queue as usize] = value,
+            _ => return Err(format!("no such field: {field} with {values:?}")),
+        }
+        Ok(())
+    }
 }
 
 impl Answer {
@@ -306,7 +342,7 @@ impl Answer {
             Answer::Message { number, slot } => format!("message {number} {slot}"),
             Answer::Gap { number, row } => format!("gap {number} {row}"),
             Answer::Empty => "empty".to_string(),
-            Answer::Refused(rule) => format!("refused {rule}"),
+            Answer::Refused(rule) => refused(*rule),
         }
     }
 }
@@ -352,8 +388,8 @@ impl PlanValue {
             ("deadline", &[row @ 0..=15, value]) => self.deadline[row as usize] = value,
             ("receiver", &[queue @ 0..=7, value]) => self.receiver[queue as usize] = value,
             ("sends", &[place @ 0..=127, value @ 0..=1]) => self.sends[place as usize] = value == 1,
-            ("size", &[queue @ 0..=7, value]) => self.size[queue as usize] = value,
-            ("place", &[queue @ 0..=7, value]) => self.place[queue as usize] = value,
+            ("length", &[queue @ 0..=7, value]) => self.size[queue as usize] = value,
+            ("offset", &[queue @ 0..=7, value]) => self.place[queue as usize] = value,
             _ => return Err(format!("no such field: {field} with {values:?}")),
         }
         Ok(())

@@ -1,67 +1,16 @@
-// Lookups in plain text, for test expectations.
-//
-// Input, one line each; empty lines and lines from # on are left out:
-//   tasks P/D P/D ..   begins a new table with these tasks; no queue yet
-//   queue R s s s      adds a queue: the receiver's row, then the senders' rows
-//   plan               prints `sizes a b c`, or `refused NO ROW`
-//   number q i k       queue, task, job: prints the message number, or `refused NO`
-//   back q n           queue, message number: prints sender and job, or `refused NO`
-//   window q m         queue, job of its receiver: prints first and last, or `refused NO`
-// Lookups use the plan of the table as it stands. Where planning refuses, the plan is all
-// zeros and every lookup prints `refused 7`. Refusals come in the order 7, 9, then 11 or 15.
-// All numbers are decimal and up to 2^64 - 1.
+// Planning and lookups on a planned table, for `second trial`: by the laps of model.rs.
+// Refusals come in the order 9, then 11 or 15.
 
-use crate::model::{plan, Plan, PlannedQueue, Queue, Refusal, Table, Task, LAST_TICK};
-
-/// The answers to a text, or what is wrong in it.
-pub fn answers(text: &str) -> Result<String, String> {
-    let mut output = String::new();
-    let mut table = Table::default();
-    for (index, line) in text.lines().enumerate() {
-        let line = line.split('#').next().unwrap_or("");
-        let words: Vec<&str> = line.split_whitespace().collect();
-        let answer = match words.as_slice() {
-            [] => continue,
-            ["tasks", tasks @ ..] => read_tasks(tasks).map(|tasks| {
-                table = Table { tasks, queues: Vec::new() };
-                None
-            }),
-            ["queue", rows @ ..] => read_queue(rows).map(|queue| {
-                table.queues.push(queue);
-                None
-            }),
-            ["plan"] => Ok(Some(planned(&plan(&table)))),
-            [name, values @ ..] => look_up(&table, name, values).map(Some),
-        };
-        match answer {
-            Ok(Some(text)) => output += &format!("{text}\n"),
-            Ok(None) => {}
-            Err(what) => return Err(format!("line {}: {what}", index + 1)),
-        }
-    }
-    Ok(output)
-}
+use crate::model::{Plan, PlannedQueue, Queue, Refusal, Task, LAST_TICK};
 
 pub fn planned(made: &Result<Plan, Refusal>) -> String {
     match made {
         Ok(plan) => {
-            let sizes: Vec<String> = plan.queues.iter().map(|queue| queue.size.to_string()).collect();
-            format!("sizes {}", sizes.join(" "))
+            let slots = |queue: &PlannedQueue| format!("slots {} {}", queue.size, queue.place);
+            plan.queues.iter().map(slots).collect::<Vec<_>>().join("\n")
         }
         Err(refusal) => format!("refused {} {}", refusal.rule, refusal.row),
     }
-}
-
-fn look_up(table: &Table, name: &str, values: &[&str]) -> Result<String, String> {
-    let values: Vec<u64> = values.iter().map(|word| read_number(word)).collect::<Result<_, _>>()?;
-    let plan = plan(table).ok();
-    let answer = match (name, values.as_slice()) {
-        ("number", &[queue, task, job]) => number(plan, queue, task, job),
-        ("back", &[queue, number]) => back(plan, queue, number),
-        ("window", &[queue, job]) => window(plan, queue, job),
-        _ => return Err(format!("no such command: {name} with {} numbers", values.len())),
-    };
-    Ok(answer.unwrap_or_else(|rule| format!("refused {rule}")))
 }
 
 fn queue_of(plan: &Plan, queue: u64) -> Result<(usize, &PlannedQueue), u8> {
@@ -71,9 +20,8 @@ fn queue_of(plan: &Plan, queue: u64) -> Result<(usize, &PlannedQueue), u8> {
     Ok((queue as usize, &plan.queues[queue as usize]))
 }
 
-fn number(plan: Option<Plan>, queue: u64, task: u64, job: u64) -> Result<String, u8> {
-    let plan = plan.ok_or(7u8)?;
-    let (place, planned) = queue_of(&plan, queue)?;
+pub fn number(plan: &Plan, queue: u64, task: u64, job: u64) -> Result<String, u8> {
+    let (place, planned) = queue_of(plan, queue)?;
     let senders = &plan.table.queues[place].senders;
     let Some(&row) = senders.iter().find(|&&row| row as u64 == task) else {
         return Err(9);
@@ -86,9 +34,8 @@ fn number(plan: Option<Plan>, queue: u64, task: u64, job: u64) -> Result<String,
     Ok(planned.number(&plan.table, row, job).to_string())
 }
 
-fn back(plan: Option<Plan>, queue: u64, number: u64) -> Result<String, u8> {
-    let plan = plan.ok_or(7u8)?;
-    let (_, planned) = queue_of(&plan, queue)?;
+pub fn back(plan: &Plan, queue: u64, number: u64) -> Result<String, u8> {
+    let (_, planned) = queue_of(plan, queue)?;
     // A sender has at most one message in a tick, so no number above this has a deadline in
     // range; left out here because its deadline may not fit into 64 bits.
     let most = 16 * LAST_TICK;
@@ -102,9 +49,8 @@ fn back(plan: Option<Plan>, queue: u64, number: u64) -> Result<String, u8> {
     Ok(format!("{} {}", message.row, message.job))
 }
 
-fn window(plan: Option<Plan>, queue: u64, job: u64) -> Result<String, u8> {
-    let plan = plan.ok_or(7u8)?;
-    let (_, planned) = queue_of(&plan, queue)?;
+pub fn window(plan: &Plan, queue: u64, job: u64) -> Result<String, u8> {
+    let (_, planned) = queue_of(plan, queue)?;
     if job as u128 * planned.receiver.period as u128 > LAST_TICK as u128 {
         return Err(11);
     }

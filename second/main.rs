@@ -5,8 +5,7 @@
 //   second check PROGRAM [SESSIONS] [FIRST_SEED] compares PROGRAM on generated sessions
 //   second session SEED                         prints the session of a seed
 //   second tally [SESSIONS] [FIRST_SEED]        counts the answers of the sessions by kind
-//   second lookups                              numbers, ways back, windows; see lookups.rs
-//   second calls                                all calls on any values; see calls.rs
+//   second trial                                all calls on any values; see calls.rs
 //
 // Built by `rustc -O main.rs -o second`; standard library only.
 
@@ -24,7 +23,7 @@ use std::io::{BufRead, BufReader, BufWriter, Read, Write};
 
 const SESSIONS: u64 = 1_200;
 const MODES: &str = "answer | check PROGRAM [SESSIONS] [FIRST_SEED] | session SEED \
-                     | tally [SESSIONS] [FIRST_SEED] | lookups | calls";
+                     | tally [SESSIONS] [FIRST_SEED] | trial";
 
 fn main() {
     let arguments: Vec<String> = std::env::args().skip(1).collect();
@@ -39,8 +38,7 @@ fn main() {
             check::tally(number(rest.first(), SESSIONS), number(rest.get(1), 1));
             0
         }
-        ["lookups"] => answer_text(lookups::answers),
-        ["calls"] => answer_text(calls::answers),
+        ["trial"] => trial(),
         _ => usage(MODES),
     };
     std::process::exit(code);
@@ -90,12 +88,12 @@ fn answer() -> i32 {
     i32::from(output.flush().is_err())
 }
 
-fn answer_text(answers: fn(&str) -> Result<String, String>) -> i32 {
+fn trial() -> i32 {
     let mut text = String::new();
     if std::io::stdin().read_to_string(&mut text).is_err() {
         return usage("the input is no text");
     }
-    match answers(&text) {
+    match calls::answers(&text) {
         Ok(output) => print(output.as_bytes()),
         Err(what) => usage(&what),
     }

@@ -20,7 +20,7 @@ use Rattle.plan.specs.declared.Plan.{Plan}
 use Rattle.plan.specs.declared.refusal.Refusal.{Refusal}
 use Rattle.planning.specs.declared.Planned.{Planned}
 use Rattle.planning.specs.declared.Answer.{Answer}
-use Rattle.mailbox.specs.Slots as slots
+use Rattle.slots.specs.Slots as slots
 use Rattle.mailbox.specs.Calls.{fresh, startLines, startAnswer, startMemory, sendMemory}
 use Rattle.mailbox.specs.Outcomes.{starting, sending, receiving}
 use Rattle.mailbox.specs.View.{slotInside, fillerFits, viewOf}

@@ -19,7 +19,7 @@ use Rattle.plan.specs.Sound.{Sound}
 use Rattle.plan.specs.Refusals.{Line}
 use Rattle.plan.specs.declared.Plan.{Plan}
 use Rattle.plan.specs.declared.refusal.Refusal.{Refusal}
-use Rattle.mailbox.specs.Slots.{slotAt}
+use Rattle.slots.specs.Slots.{slotAt}
 use Rattle.mailbox.specs.Calls.{receiveLines, found, slotFor, receivingJob}
 use Rattle.mailbox.specs.View.{viewOf}
 use Rattle.mailbox.specs.declared.Received.{Received}

@@ -13,8 +13,8 @@ use Rattle.plan.specs.Limits.{lastTick, payloadBytes, slotBytes}
 use Rattle.plan.specs.Plan.{queueAt, sizeAt, slotsOf}
 use Rattle.plan.specs.Sound.{Sound, usable, inside, apart as places-apart}
 use Rattle.plan.specs.declared.Plan.{Plan}
-use Rattle.mailbox.specs.Slots.{slotAt}
-use Rattle.mailbox.specs.SlotLaws.{slots-apart}
+use Rattle.slots.specs.Slots.{slotAt}
+use Rattle.slots.specs.SlotLaws.{slots-apart}
 use Rattle.mailbox.specs.Calls.{slotFor}
 
 -- ## Divisions

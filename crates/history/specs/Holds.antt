@@ -15,8 +15,8 @@ use Rattle.plan.specs.Rules.{soundPlan}
 use Rattle.plan.specs.Sound.{Sound}
 use Rattle.plan.specs.declared.Plan.{Plan}
 use Rattle.plan.specs.declared.refusal.Refusal.{Refusal}
-use Rattle.mailbox.specs.Slots.{cleared}
-use Rattle.mailbox.specs.SlotLaws.{length-cleared, number-cleared, behind-stored, behind-cleared}
+use Rattle.slots.specs.Slots.{cleared}
+use Rattle.slots.specs.SlotLaws.{length-cleared, number-cleared, behind-stored, behind-cleared}
 use Rattle.mailbox.specs.Calls.{startLines, startAnswer, startMemory, slotFor}
 use Rattle.mailbox.specs.declared.Started.{Started}
 use Rattle.plan.specs.Verdicts.{Passed, Stopped, passed-good, stopped-refused, passed-or-stopped}

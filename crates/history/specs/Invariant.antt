@@ -18,8 +18,8 @@ use Rattle.plan.specs.Limits.{taskLimit, queueLimit, cellLimit, payloadBytes, s
 use Rattle.plan.specs.Plan.{queueAt, sizeAt, slotsOf}
 use Rattle.plan.specs.Sound.{Sound}
 use Rattle.plan.specs.declared.Plan.{Plan}
-use Rattle.mailbox.specs.Slots.{numberIn, payloadIn}
-use Rattle.mailbox.specs.SlotLaws.{number-same, number-other, payload-same, payload-other, length-stored}
+use Rattle.slots.specs.Slots.{numberIn, payloadIn}
+use Rattle.slots.specs.SlotLaws.{number-same, number-other, payload-same, payload-other, length-stored}
 use Rattle.mailbox.specs.Calls.{slotFor, runningJob}
 use Rattle.mailbox.specs.declared.Sent.{Sent}
 use Rattle.history.specs.History.{Call, send, World, History, _⊑_, same, more, world, Sends, accepted}

@@ -22,7 +22,7 @@ use Rattle.plan.specs.Limits.{taskLimit, queueLimit, cellLimit, lastTick, longe
 use Rattle.plan.specs.Plan.{queueAt, sizeAt}
 use Rattle.plan.specs.Sound.{Sound, sound-iff}
 use Rattle.plan.specs.declared.Plan.{Plan}
-use Rattle.mailbox.specs.Slots.{numberIn}
+use Rattle.slots.specs.Slots.{numberIn}
 use Rattle.mailbox.specs.Calls.{found, slotFor, runningJob, receivingJob}
 use Rattle.mailbox.specs.declared.Received.{Received}
 use Rattle.history.specs.History.{send, receive, World, History, start, _then_, Begins, world, after, receiveSays, Sends, accepted, SentIn, Tells, stores, tells, AllAccepted}

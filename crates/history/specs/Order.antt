@@ -18,7 +18,7 @@ use Rattle.model.specs.Window.{last-mono}
 use Rattle.plan.specs.Limits.{queueLimit, lastTick, payloadBytes}
 use Rattle.plan.specs.Plan.{queueAt}
 use Rattle.plan.specs.declared.Plan.{Plan}
-use Rattle.mailbox.specs.Slots.{numberIn}
+use Rattle.slots.specs.Slots.{numberIn}
 use Rattle.mailbox.specs.Calls.{found, slotFor, receivingJob}
 use Rattle.mailbox.specs.declared.Received.{Received}
 use Rattle.history.specs.History.{Call, receive, World, History, start, _then_, Begins, world, receiveSays, Reading, readings, reads, readBy, numbers, upFrom}

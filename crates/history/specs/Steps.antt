@@ -20,7 +20,7 @@ use Rattle.plan.specs.Plan.{queueAt, slotsOf}
 use Rattle.plan.specs.Rules.{soundPlan, connected}
 use Rattle.plan.specs.declared.Plan.{Plan}
 use Rattle.plan.specs.declared.refusal.Refusal.{Refusal}
-use Rattle.mailbox.specs.Slots.{numberIn, stored}
+use Rattle.slots.specs.Slots.{numberIn, stored}
 use Rattle.mailbox.specs.Calls.{sendLines, receiveLines, sendAnswer, sendState, sendMemory, look, found, receiveState, sentState, readPast, movedTo, steppedOn, runningJob, runningDeadline, runningNumber, receivingJob, nextNumber, slotIn, slotFor}
 use Rattle.mailbox.specs.declared.Sent.{Sent}
 use Rattle.mailbox.specs.declared.Received.{Received}

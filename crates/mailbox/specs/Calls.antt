@@ -1,19 +1,19 @@
--- What start, send and receive answer, and the state and memory that each leaves, on every input. One list of lines of the table of
--- refusals belongs to each call, in the order in which it is tested.
-use Prim.Native.Nat.{ℕ, _+_, _*_, _/_, _%_, max}
-use mathlib.Core.Bool.{Bool, cond, not, _||_}
-use mathlib.Core.List.{List, [], _∷_}
-use lib.Dec.{leb, ltb, eqb}
-use lib.ListN.{length, getD, set, replicate}
-use Rattle.model.specs.Model.{Queue, receiverPeriod, deadlineOf, number, first, last, wantedUntil, senderOf}
+-- What start, send and receive answer, and the state and memory that each leaves, on every input. Each call's lines of the table of
+-- refusals are the crate judge's, here of a state.
+use Prim.Native.Nat.{ℕ, _+_, _*_, max}
+use mathlib.Core.Bool.{cond}
+use mathlib.Core.List.{List}
+use lib.Dec.{ltb, eqb}
+use lib.ListN.{getD, set, replicate}
+use Rattle.model.specs.Model.{Queue, number, first, last, senderOf}
 use Rattle.calendar.specs.Calendar.{tick, message, slot}
-use Rattle.plan.specs.Limits.{taskLimit, queueLimit, cellLimit, lastTick, payloadBytes, slotBytes}
+use Rattle.plan.specs.Limits.{taskLimit, queueLimit, cellLimit, lastTick, payloadBytes}
 use Rattle.plan.specs.Plan.{queueAt, sizeAt, placeAt, slotsOf}
-use Rattle.plan.specs.Rules.{soundPlan, connected}
-use Rattle.plan.specs.Refusals.{Line, _gives_, unnamed, judged}
+use Rattle.plan.specs.Refusals.{Line, judged}
 use Rattle.plan.specs.declared.Plan.{Plan}
-use Rattle.plan.specs.declared.refusal.Rule.the-variants.{UnsoundPlan, ShortMemory, NoSuchSender, TickBeforeState, PastLastTick, JobOver, SentAlready, PayloadLength}
-use Rattle.mailbox.specs.Slots.{numberIn, stored, cleared}
+use Rattle.slots.specs.Slots.{slotOf, slotFrom, numberIn, stored, cleared}
+use Rattle.judge.specs.Lines as lines
+pub use Rattle.judge.specs.Lines.{startLines, runningJob, runningDeadline, receivingJob}
 use Rattle.mailbox.specs.declared.State.{State}
 use Rattle.mailbox.specs.declared.Started.{Started}
 use Rattle.mailbox.specs.declared.Sent.{Sent}
@@ -23,15 +23,7 @@ use Rattle.mailbox.specs.declared.Received.{Received}
 abbrev pub fresh : State
 fresh = record { tick = tick 0; sent = replicate cellLimit 0; reading = replicate queueLimit 0 }
 
--- 7 and 8, which every running call tests first
-abbrev pub groundLines : Plan → List ℕ → List Line → List Line
-groundLines p m lines =
-    not (soundPlan p) gives unnamed UnsoundPlan ∷ ltb (length m) (slotsOf p * slotBytes) gives unnamed ShortMemory ∷ lines
-
--- ## Start: 7, 8
-
-abbrev pub startLines : Plan → List ℕ → List Line
-startLines p m = groundLines p m []
+-- ## Start
 
 unfoldable pub startAnswer : Plan → List ℕ → Started
 startAnswer p m = judged (startLines p m) Started.Refused Started.Ready
@@ -40,40 +32,25 @@ startAnswer p m = judged (startLines p m) Started.Refused Started.Ready
 unfoldable pub startMemory : Plan → List ℕ → List ℕ
 startMemory p m = judged (startLines p m) (λ r. m) (cleared payloadBytes m (slotsOf p))
 
--- ## Send: 7, 8, 14, 9, 11, 10, 12, 13
+-- ## Send
 
--- the task's job that was released last at tick t, its deadline and its message's number
-abbrev pub runningJob : Queue → ℕ → ℕ → ℕ
-runningJob q i t = t / q .period i
-
-abbrev pub runningDeadline : Queue → ℕ → ℕ → ℕ
-runningDeadline q i t = deadlineOf q i (runningJob q i t)
-
+-- the number of the running job's message
 abbrev pub runningNumber : Queue → ℕ → ℕ → ℕ
 runningNumber q i t = number q i (runningJob q i t)
 
--- "a recorded send of this job or a later one counts as sent"
-abbrev pub sentAlready : State → Plan → ℕ → ℕ → ℕ → Bool
-sentAlready s p q i t = ltb (runningJob (queueAt p q) i t) (getD (s .sent) (q * taskLimit + i) 0)
+-- the job after the last one that task i sent into queue q
+abbrev pub lastSent : State → ℕ → ℕ → ℕ
+lastSent s q i = getD (s .sent) (q * taskLimit + i) 0
 
 abbrev pub sendLines : State → Plan → List ℕ → ℕ → ℕ → ℕ → List ℕ → List Line
-sendLines s p m q i t payload =
-    groundLines p m
-    (not (eqb (length payload) payloadBytes) gives unnamed PayloadLength
-    ∷ not (connected p q i) gives unnamed NoSuchSender
-    ∷ (ltb lastTick t || ltb lastTick (runningDeadline (queueAt p q) i t)) gives unnamed PastLastTick
-    ∷ ltb t (s .tick .0) gives unnamed TickBeforeState
-    ∷ leb (runningDeadline (queueAt p q) i t) t gives unnamed JobOver
-    ∷ sentAlready s p q i t gives unnamed SentAlready
-    ∷ [])
+sendLines s p m q i t payload = lines.sendLines (s .tick .0) (lastSent s q i) p m q i t payload
 
--- "Message n lies in slot n mod L", within its queue
+-- a message's slot within its queue, and from the start of memory
 abbrev pub slotIn : Plan → ℕ → ℕ → ℕ
-slotIn p q n = n % sizeAt p q
+slotIn p q n = slotOf (sizeAt p q) n
 
--- and from the start of memory
 abbrev pub slotFor : Plan → ℕ → ℕ → ℕ
-slotFor p q n = placeAt p q + slotIn p q n
+slotFor p q n = slotFrom (placeAt p q) (sizeAt p q) n
 
 unfoldable pub sendAnswer : State → Plan → List ℕ → ℕ → ℕ → ℕ → List ℕ → Sent
 sendAnswer s p m q i t payload =
@@ -95,20 +72,10 @@ sendMemory s p m q i t payload =
     let n = runningNumber (queueAt p q) i t in
     judged (sendLines s p m q i t payload) (λ r. m) (stored payloadBytes m (slotFor p q n) n payload)
 
--- ## Receive: 7, 8, 9, 11, 10, 12. It is a look, which changes nothing, and then a step on from the answer.
-
--- the receiver's job that was released last at tick t
-abbrev pub receivingJob : Queue → ℕ → ℕ
-receivingJob q t = t / receiverPeriod q
+-- ## Receive. It is a look, which changes nothing, and then a step on from the answer.
 
 abbrev pub receiveLines : State → Plan → List ℕ → ℕ → ℕ → List Line
-receiveLines s p m q t =
-    groundLines p m
-    (not (ltb q (p .queues)) gives unnamed NoSuchSender
-    ∷ ltb lastTick t gives unnamed PastLastTick
-    ∷ ltb t (s .tick .0) gives unnamed TickBeforeState
-    ∷ leb (wantedUntil (queueAt p q) (receivingJob (queueAt p q) t)) t gives unnamed JobOver
-    ∷ [])
+receiveLines s p m q t = lines.receiveLines (s .tick .0) p m q t
 
 -- "a reading place before the window counts as its first number"
 abbrev pub nextNumber : State → Plan → ℕ → ℕ → ℕ

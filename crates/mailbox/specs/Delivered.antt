@@ -19,13 +19,13 @@ use Rattle.plan.specs.Refusals.{Line, judged}
 use Rattle.plan.specs.Sound.{sound-iff, usable}
 use Rattle.plan.specs.declared.Plan.{Plan}
 use Rattle.plan.specs.declared.refusal.Refusal.{Refusal}
-use Rattle.numbering.specs.Bounds.{upTo-fits}
-use Rattle.mailbox.specs.Slots.{slotAt, numberIn, payloadIn, stored}
-use Rattle.mailbox.specs.SlotLaws.{number-same, payload-same, length-stored, number-cleared}
-use Rattle.mailbox.specs.Calls.{startLines, startAnswer, startMemory, sendLines, runningJob, runningNumber, runningDeadline, slotFor, sendAnswer, sendState, sendMemory, receiveLines, receivingJob, nextNumber, found, look}
+use Rattle.judge.specs.Accepted.{SendTaken, send-taken}
+use Rattle.slots.specs.Slots.{slotAt, numberIn, payloadIn, stored}
+use Rattle.slots.specs.SlotLaws.{number-same, payload-same, length-stored, number-cleared}
+use Rattle.mailbox.specs.Calls.{startLines, startAnswer, startMemory, sendLines, runningJob, runningNumber, runningDeadline, slotFor, lastSent, sendAnswer, sendState, sendMemory, receiveLines, receivingJob, nextNumber, found, look}
 use Rattle.mailbox.specs.View.{viewOf}
 use Rattle.plan.specs.Verdicts.{verdict, outcome, by-verdict, by-clear, Passed, passed-clear}
-use Rattle.mailbox.specs.Accepted.{SendTaken, send-taken, slot-inside}
+use Rattle.mailbox.specs.Bounds.{slot-inside, count-small}
 use Rattle.mailbox.specs.Outcomes.{started-clear, sent-clear}
 use Rattle.mailbox.specs.Outcomes.{accepted}
 use Rattle.mailbox.specs.declared.State.{State}
@@ -77,8 +77,8 @@ module _ (s : State) (p : Plan) (m : List ℕ) (q i t : ℕ) (payload : List ℕ
   clear : verdict (sendLines s p m q i t payload) ≡ Verdict.Clear
   clear = send-is-clear s p m q i t payload n at sent
 
-  taken : SendTaken s p m q i t payload
-  taken = send-taken s p m q i t payload refl clear
+  taken : SendTaken (s .tick .0) (lastSent s q i) p m q i t payload
+  taken = send-taken (s .tick .0) (lastSent s q i) p m q i t payload refl clear
 
   -- the number that was answered is the running job's
   pub answered : n ≡ message (runningNumber (queueAt p q) i t)
@@ -94,7 +94,7 @@ module _ (s : State) (p : Plan) (m : List ℕ) (q i t : ℕ) (payload : List ℕ
       (omega (
         arith,
         number-below (queueAt p q) v i (runningJob (queueAt p q) i t) (taken .sender),
-        upTo-fits (usable (taken .ground .sound) q (taken .queue)) (runningDeadline (queueAt p q) i t) (taken .deadline-within),
+        count-small (taken .ground) q (taken .queue) (runningDeadline (queueAt p q) i t) (taken .deadline-within),
       ))
 
   memory-is : memory ≡ stored payloadBytes m place (n .0) payload

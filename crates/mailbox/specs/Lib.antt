@@ -1,13 +1,11 @@
-pub mod Slots
-pub mod SlotLaws
 pub mod Calls
-pub mod Running
-pub mod Cell
+pub mod Known
+pub mod Window
 pub mod View
 pub mod Outcomes
 pub mod Unique
 pub mod Refused
 pub mod Says
-pub mod Accepted
+pub mod Bounds
 pub mod Stepping
 pub mod Delivered

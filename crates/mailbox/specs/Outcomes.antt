@@ -12,7 +12,7 @@ use Rattle.plan.specs.Limits.{taskLimit, payloadBytes}
 use Rattle.plan.specs.Plan.{queueAt, slotsOf}
 use Rattle.plan.specs.declared.Plan.{Plan}
 use Rattle.plan.specs.declared.refusal.Refusal.{Refusal}
-use Rattle.mailbox.specs.Slots.{stored, cleared}
+use Rattle.slots.specs.Slots.{stored, cleared}
 use Rattle.mailbox.specs.Calls.{fresh, startLines, startAnswer, startMemory, sendLines, runningNumber, slotIn, slotFor, sendAnswer, sentState, sendState, sendMemory, receivingJob, nextNumber, found, look, receiveState}
 use Rattle.plan.specs.Verdicts.{verdict, by-refusal, by-clear}
 use Rattle.plan.specs.declared.refusal.Verdict.{Verdict}

@@ -14,7 +14,7 @@ use Rattle.plan.specs.declared.refusal.Refusal.{Refusal}
 use Rattle.model.specs.Model.{last, senderOf}
 use Rattle.calendar.specs.Calendar.{message, slot}
 use Rattle.mailbox.specs.Calls.{startLines, startAnswer, startMemory, sendLines, sendAnswer, sendState, sendMemory, receiveLines, slotFor, receivingJob, nextNumber, look, found, receiveState}
-use Rattle.mailbox.specs.Slots.{numberIn}
+use Rattle.slots.specs.Slots.{numberIn}
 use Rattle.mailbox.specs.Outcomes.{accepted}
 use Rattle.plan.specs.Verdicts.{verdict, outcome, by-verdict, Stopped, verdict-stopped, stopped-verdict}
 use Rattle.plan.specs.declared.refusal.Verdict.{Verdict}

@@ -13,7 +13,8 @@ use Rattle.plan.specs.Refusals.{numberOf}
 use Rattle.plan.specs.Rules.{soundPlan, connected}
 use Rattle.plan.specs.declared.Plan.{Plan}
 use Rattle.plan.specs.declared.refusal.Refusal.{Refusal}
-use Rattle.mailbox.specs.Calls.{startLines, startAnswer, sendLines, runningDeadline, runningNumber, slotIn, sentAlready, sendAnswer, receiveLines, receivingJob, look}
+use Rattle.judge.specs.Lines.{sentAlready}
+use Rattle.mailbox.specs.Calls.{startLines, startAnswer, sendLines, runningJob, runningDeadline, runningNumber, slotIn, lastSent, sendAnswer, receiveLines, receivingJob, look}
 use Rattle.plan.specs.Verdicts.{judged-map}
 use Rattle.mailbox.specs.Outcomes.{accepted}
 use Rattle.mailbox.specs.declared.State.{State}
@@ -65,7 +66,7 @@ pub send-says : (s : State) (p : Plan) (m : List ℕ) (q i t : ℕ) (payload : L
     (cond (ltb lastTick t || ltb lastTick (runningDeadline (queueAt p q) i t)) (no 11)
     (cond (ltb t (s .tick .0)) (no 10)
     (cond (leb (runningDeadline (queueAt p q) i t) t) (no 12)
-    (cond (sentAlready s p q i t) (no 13)
+    (cond (sentAlready (lastSent s q i) (runningJob (queueAt p q) i t)) (no 13)
     (0x84, n ∷ slotIn p q n ∷ []))))))))
 unfolding sendAnswer
 send-says s p m q i t payload = judged-map sentSays (sendLines s p m q i t payload) Sent.Refused _

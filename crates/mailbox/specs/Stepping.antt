@@ -11,10 +11,11 @@ use Rattle.calendar.specs.Calendar.{message, slot}
 use Rattle.plan.specs.Limits.{taskLimit, queueLimit, lastTick, payloadBytes}
 use Rattle.plan.specs.Plan.{queueAt}
 use Rattle.plan.specs.declared.Plan.{Plan}
-use Rattle.mailbox.specs.Slots.{numberIn}
+use Rattle.slots.specs.Slots.{numberIn}
 use Rattle.mailbox.specs.Calls.{receiveLines, receivingJob, nextNumber, slotFor, found, look}
 use Rattle.plan.specs.Verdicts.{verdict, by-refusal, by-clear}
-use Rattle.mailbox.specs.Accepted.{ReceiveTaken, receive-taken, window-small}
+use Rattle.judge.specs.Accepted.{ReceiveTaken, receive-taken}
+use Rattle.mailbox.specs.Bounds.{window-small}
 use Rattle.mailbox.specs.Outcomes.{accepted}
 use Rattle.mailbox.specs.declared.State.{State}
 use Rattle.mailbox.specs.declared.Received.{Received}
@@ -38,7 +39,7 @@ found-steps p m q n a b = go (eqb (numberIn payloadBytes m (slotFor p q n)) n)
     go true = (a, b)
     go false = (a, b)
 
-accepted-steps : (s : State) (p : Plan) (m : List ℕ) (q t : ℕ) → ReceiveTaken s p m q t → CanStep q (accepted s p m q t)
+accepted-steps : (s : State) (p : Plan) (m : List ℕ) (q t : ℕ) → ReceiveTaken (s .tick .0) p m q t → CanStep q (accepted s p m q t)
 accepted-steps s p m q t x = go (ltb (last (queueAt p q) (receivingJob (queueAt p q) t)) (nextNumber s p q t)) refl
   where
     go : (b : Bool) → ltb (last (queueAt p q) (receivingJob (queueAt p q) t)) (nextNumber s p q t) ≡ b →
@@ -57,4 +58,4 @@ look-steps s p m q t = go (verdict (receiveLines s p m q t)) refl
     go (Verdict.Refused r) e = rw (by-refusal (receiveLines s p m q t) Received.Refused (accepted s p m q t) r e) tt
     go Verdict.Clear e =
         rw (by-clear (receiveLines s p m q t) Received.Refused (accepted s p m q t) e)
-        (accepted-steps s p m q t (receive-taken s p m q t (sym e) refl))
+        (accepted-steps s p m q t (receive-taken (s .tick .0) p m q t (sym e) refl))

@@ -6,7 +6,7 @@ use lib.Dec.{leb, eqb}
 use lib.ListN.{length}
 use denote.Ref.{RefT, now}
 use Rattle.plan.specs.Limits.{payloadBytes, slotBytes}
-use Rattle.mailbox.specs.Slots.{slotAt, payloadIn}
+use Rattle.slots.specs.Slots.{slotAt, payloadIn}
 use Rattle.mailbox.specs.declared.Received.{Received}
 
 -- the slot lies inside the memory

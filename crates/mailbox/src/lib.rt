@@ -1,8 +1,5 @@
 // The mailbox: the running calls start, send and receive, over a plan, a state and slots in lent memory, and the view of an answer's bytes.
 // Each call tests what it is handed and answers; a refused call gives back state and memory as they were.
-mod judge; // judge.rt: the tests of the running calls
-mod places; // places.rt: which slot is a message's
-mod slots; // slots.rt: a message in its slot's bytes
 pub mod start; // start.rt: the fresh state, and start
 pub mod send; // send.rt: send
 pub mod receive; // receive.rt: receive, a look and a step on

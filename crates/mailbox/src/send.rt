@@ -2,28 +2,110 @@
 use crate::Sending;
 use crate::Sent;
 use crate::State;
-use crate::judge::judge_send;
-use crate::places::slot_for;
-use crate::places::slot_in;
-use crate::slots::store;
 use calendar::Job;
+use calendar::Number;
 use calendar::Tick;
+use calendar::deadline_of;
 use calendar::job_at;
-use numbering::number::number_at;
+use counting::number::number_due;
+use judge::judge_send;
 use plan::Plan;
+use plan::refusal::Refusal;
+use plan::refusal::Rule;
 use plan::refusal::Verdict;
+use plan::rules::sound;
+use slots::places::slot_for;
+use slots::places::slot_in;
+use slots::store;
 ghost use mathlib.Core.Path.{_≡_};
-ghost use Prim.Native.Nat.{_<_, _≤_};
-ghost use Rattle.calendar.specs.Calendar.{job};
+ghost use mathlib.Core.Bool.{true};
+ghost use Prim.Native.Nat.{_+_, _*_, _<_, _≤_};
+ghost use lib.ListN.{getD};
+ghost use Rattle.calendar.specs.Calendar.{message, job};
 ghost use Rattle.plan.specs.Limits.{taskLimit, queueLimit, lastTick};
 ghost use Rattle.plan.specs.Plan.{queueAt};
-ghost use Rattle.mailbox.specs.Calls.{runningJob, sendMemory};
-ghost use Rattle.mailbox.specs.Cell.{Cell};
+ghost use Rattle.plan.specs.Rules.{soundPlan};
+ghost use Rattle.counting.specs.Columns.{columnsAt, Lent};
+ghost use Rattle.mailbox.specs.declared.State.{State};
+ghost use Rattle.mailbox.specs.Calls.{runningJob, runningDeadline, runningNumber, sendAnswer, sendMemory};
+ghost use Rattle.mailbox.specs.Known.{SendsFrom};
 ghost use Rattle.mailbox.specs.Outcomes.{sending, recorded};
+
+// The number of the message of a task's job that was released last, from the plan's columns.
+fn running_number<'a>(
+    sends: &'a [bool; Plan::CELLS],
+    period: &'a [u64; Plan::TASKS],
+    deadline: &'a [u64; Plan::TASKS],
+    tasks: usize,
+    queue: usize,
+    task: usize,
+    at: Tick,
+) -> Number
+    requires { ⌜ Lent (now sends) (now period) (now deadline) tasks queue × (task < tasks)
+        × (runningDeadline (columnsAt (now sends) (now period) (now deadline) tasks queue) task (at .0) ≤ lastTick) ⌝ }
+    ensures { λ r. ⌜ r ≡ message (runningNumber (columnsAt (now (sends .entry)) (now (period .entry)) (now (deadline .entry)) tasks queue) task (at .0)) ⌝ }
+{
+    let job = job_at(period[task], at);
+    let due = deadline_of(period[task], deadline[task], job);
+    Number(number_due(sends, period, deadline, tasks, queue, due, task))
+}
+
+// Stores a message, and answers as a send does in every state with the tick `last`, where `sent` is the job after the last one that the
+// task sent into the queue. It is for callers that have tested rule 7.
+pub fn send_on(
+    plan: Plan,
+    memory: &mut [u8],
+    queue: usize,
+    task: usize,
+    at: Tick,
+    payload: &[u8],
+    last: Tick,
+    sent: u64,
+) -> Sent
+    requires { ⌜ soundPlan plan ≡ true ⌝ }
+    ensures { λ r. ⌜ ((s : State) → SendsFrom s queue task (last .0) sent →
+        (r ≡ sendAnswer s plan (now (memory .entry)) queue task (at .0) (now (payload .entry)))
+        × (now (memory .exit) ≡ sendMemory s plan (now (memory .entry)) queue task (at .0) (now (payload .entry)))) ⌝ }
+{
+    let verdict = judge_send(plan, memory, queue, task, at, payload, last, sent);
+    if let Verdict::Refused(refusal) = verdict {
+        return Sent::Refused(refusal);
+    }
+    let number = running_number(
+        &plan.sends,
+        &plan.period,
+        &plan.deadline,
+        plan.tasks,
+        queue,
+        task,
+        at,
+    );
+    let size = plan.size[queue];
+    store(
+        memory,
+        slot_for(plan.place[queue], size, number),
+        number,
+        payload,
+    );
+    Sent::Stored(number, slot_in(size, number))
+}
+
+// The job after the last one that a task sent into a queue, from the state's entries; 0 where there is no such entry.
+pub fn last_sent(sent: &[u64; Plan::CELLS], queue: usize, task: usize) -> u64
+    ensures { λ r. ⌜ (queue < queueLimit → task < taskLimit → r ≡ getD (now (sent .entry)) (queue * taskLimit + task) 0) ⌝ }
+{
+    if Plan::QUEUES <= queue {
+        return 0;
+    }
+    if Plan::TASKS <= task {
+        return 0;
+    }
+    sent[queue * Plan::TASKS + task]
+}
 
 // The task's job that was released last.
 fn running_job(plan: Plan, queue: usize, task: usize, at: Tick) -> Job
-    requires { ⌜ Cell plan queue task ⌝ }
+    requires { ⌜ (task < taskLimit) × (1 ≤ getD (plan .period) task 0) ⌝ }
     ensures { λ r. ⌜ r ≡ job (runningJob (queueAt plan queue) task (at .0)) ⌝ }
 {
     job_at(plan.period[task], at)
@@ -53,18 +135,26 @@ impl State {
         ensures { λ r. ⌜ (r ≡ sending self plan (now (memory .entry)) queue task (at .0) (now (payload .entry)))
             × (now (memory .exit) ≡ sendMemory self plan (now (memory .entry)) queue task (at .0) (now (payload .entry))) ⌝ }
     {
-        let verdict = judge_send(self, plan, memory, queue, task, at, payload);
-        if let Verdict::Refused(refusal) = verdict {
+        if !sound(plan) {
             return Sending {
-                answer: Sent::Refused(refusal),
+                answer: Sent::Refused(Refusal {
+                    rule: Rule::UnsoundPlan,
+                    row: 0,
+                }),
+                state: self,
+            };
+        }
+        let sent = last_sent(&self.sent, queue, task);
+        let answer = send_on(plan, memory, queue, task, at, payload, self.tick, sent);
+        if let Sent::Refused(_) = answer {
+            return Sending {
+                answer,
                 state: self,
             };
         }
         let job = running_job(plan, queue, task, at);
-        let number = number_at(plan, queue, task, job);
-        store(memory, slot_for(plan, queue, number), number, payload);
         Sending {
-            answer: Sent::Stored(number, slot_in(plan, queue, number)),
+            answer,
             state: self.recorded(queue, task, at, job),
         }
     }

@@ -1,6 +1,2 @@
 pub mod Bounds
 pub mod Origin
-pub mod Lookups
-pub mod Says
-pub mod Unique
-pub mod Inverse

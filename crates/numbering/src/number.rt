@@ -1,17 +1,34 @@
-// Equation 2, and the numbers that bound a window. Callers have tested the plan (`Usable`) and stay within the last tick.
-use crate::count::followers;
-use crate::count::up_to;
+// Equation 1, equation 2, and the numbers that bound a window, of a plan's queue. Callers have tested the plan (`Usable`) and stay within
+// the last tick.
 use calendar::Job;
 use calendar::Number;
+use calendar::Tick;
 use calendar::deadline_of;
 use calendar::release_of;
+use counting::count;
+use counting::number::number_due;
 use plan::Plan;
 ghost use mathlib.Core.Path.{_≡_};
 ghost use Prim.Native.Nat.{_≤_};
-ghost use Rattle.model.specs.Model.{Sender, deadlineOf, released, receiverPeriod, number, first, last};
+ghost use Rattle.model.specs.Model.{Sender, deadlineOf, released, receiverPeriod, upTo, number, first, last};
 ghost use Rattle.calendar.specs.Calendar.{message};
 ghost use Rattle.plan.specs.Limits.{lastTick};
 ghost use Rattle.plan.specs.Plan.{queueAt, Usable};
+
+// The messages of a queue with deadlines up to a tick.
+pub fn up_to(plan: Plan, queue: usize, at: Tick) -> u64
+    requires { ⌜ Usable plan queue × (at .0 ≤ lastTick) ⌝ }
+    ensures { λ r. ⌜ r ≡ upTo (queueAt plan queue) (at .0) ⌝ }
+{
+    count::up_to(
+        &plan.sends,
+        &plan.period,
+        &plan.deadline,
+        plan.tasks,
+        queue,
+        at,
+    )
+}
 
 // The number of the message that a task's job sends.
 pub fn number_at(plan: Plan, queue: usize, task: usize, job: Job) -> Number
@@ -19,9 +36,16 @@ pub fn number_at(plan: Plan, queue: usize, task: usize, job: Job) -> Number
     ensures { λ r. ⌜ r ≡ message (number (queueAt plan queue) task (job .0)) ⌝ }
 {
     let at = deadline_of(plan.period[task], plan.deadline[task], job);
-    let all = up_to(plan, queue, at);
-    let after = followers(plan, queue, at, task);
-    Number(all - after)
+    let n = number_due(
+        &plan.sends,
+        &plan.period,
+        &plan.deadline,
+        plan.tasks,
+        queue,
+        at,
+        task,
+    );
+    Number(n)
 }
 
 // The last number of the window of a receiver's job.

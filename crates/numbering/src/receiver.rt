@@ -1,21 +1,10 @@
-// The receiver of a queue: its period, and how long after one of its releases the messages that it is given are wanted.
-use plan::Plan;
+// How long after one of its releases a receiver wants the messages that it is given then.
 ghost use mathlib.Core.Path.{_≡_};
-ghost use Rattle.model.specs.Model.{receiverPeriod, wantedFor};
-ghost use Rattle.plan.specs.Plan.{queueAt, Usable};
+ghost use Rattle.model.specs.Model.{Queue, receiverDeadline, wantedFor};
 
-pub fn receiver_period(plan: Plan, queue: usize) -> u64
-    requires { ⌜ Usable plan queue ⌝ }
-    ensures { λ r. ⌜ r ≡ receiverPeriod (queueAt plan queue) ⌝ }
+// For a receiver with this deadline.
+pub fn wanted_for(deadline: u64) -> u64
+    ensures { λ r. ⌜ ((q : Queue) → receiverDeadline q ≡ deadline → r ≡ wantedFor q) ⌝ }
 {
-    let receiver = plan.receiver[queue];
-    plan.period[receiver]
-}
-
-pub fn wanted_for(plan: Plan, queue: usize) -> u64
-    requires { ⌜ Usable plan queue ⌝ }
-    ensures { λ r. ⌜ r ≡ wantedFor (queueAt plan queue) ⌝ }
-{
-    let receiver = plan.receiver[queue];
-    plan.deadline[receiver]
+    deadline
 }

@@ -24,8 +24,9 @@ use Rattle.plan.specs.Verdicts.{Passed, Stopped, passed-or-stopped, passed-good
 use Rattle.plan.specs.Sound.{Checked, Sound, sound-iff, checked-usable, checked-sender, usable}
 use Rattle.plan.specs.declared.Plan.{Plan}
 use Rattle.plan.specs.declared.refusal.Refusal.{Refusal}
+use Rattle.sizing.specs.Cycle.{cycleShort, messagesFew}
 use Rattle.planning.specs.Table.{tabled}
-use Rattle.planning.specs.Planning.{cycleShort, messagesFew, longQueue, leastSize, leastSizes, sized, refusedPlan, firstLines, tableLines, accepted, tableJudged, planOf}
+use Rattle.planning.specs.Planning.{longQueue, leastSize, leastSizes, sized, refusedPlan, firstLines, tableLines, accepted, tableJudged, planOf}
 use Rattle.planning.specs.TableLaws.{table-checked, long-within, size-at}
 use Rattle.planning.specs.declared.Planned.{Planned}
 use Rattle.planning.specs.declared.Answer.{Answer}

@@ -1,5 +1,4 @@
 pub mod Table
 pub mod Planning
-pub mod Bounds
 pub mod TableLaws
 pub mod Accepted

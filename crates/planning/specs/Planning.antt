@@ -3,32 +3,25 @@
 use Prim.Native.Nat.{ℕ}
 use mathlib.Core.Bool.{Bool, not, _&&_}
 use mathlib.Core.List.{List, [], _∷_}
-use lib.Dec.{leb, ltb}
+use lib.Dec.{ltb}
 use lib.ListN.{getD}
 use Rattle.common.specs.Totals.{only, sum}
 use Rattle.common.specs.Rows.{firstBad}
 use Rattle.common.specs.Table.{table}
-use Rattle.model.specs.Model.{hyperperiod, messages, slots}
-use Rattle.plan.specs.Limits.{queueLimit, longestHyperperiod, mostMessages, mostSlots}
+use Rattle.model.specs.Model.{slots}
+use Rattle.plan.specs.Limits.{queueLimit, mostSlots}
 use Rattle.plan.specs.Plan.{zeros, queueAt}
 use Rattle.plan.specs.Rules.{countsGood, badTask, badQueue}
 use Rattle.plan.specs.Refusals.{Line, _gives_, named, unnamed, judged}
 use Rattle.plan.specs.declared.Plan.{Plan}
 use Rattle.plan.specs.declared.refusal.Refusal.{Refusal}
 use Rattle.plan.specs.declared.refusal.Rule.the-variants.{TaskOrQueueCount, PeriodOrDeadline, ReceiverOrSender, HyperperiodTooLong, TooManyMessages, TooManySlots}
+use Rattle.sizing.specs.Cycle.{cycleShort, messagesFew}
 use Rattle.planning.specs.Table.{tabled}
 use Rattle.planning.specs.declared.Planned.{Planned}
 use Rattle.planning.specs.declared.Answer.{Answer}
 
 -- of a table t whose rows have passed rules 1 to 3:
--- not 4: "hyperperiod over the limit", of one queue
-abbrev pub cycleShort : Plan → ℕ → Bool
-cycleShort t q = leb (hyperperiod (queueAt t q)) longestHyperperiod
-
--- not 5: "too many messages in a hyperperiod", of one queue
-abbrev pub messagesFew : Plan → ℕ → Bool
-messagesFew t q = leb (messages (queueAt t q) (hyperperiod (queueAt t q))) mostMessages
-
 -- "then 4 before 5 queue by queue": the first queue that breaks one of them, and the count where none does
 unfoldable pub longQueue : Plan → ℕ
 longQueue t = firstBad (λ q. cycleShort t q && messagesFew t q) (t .queues)

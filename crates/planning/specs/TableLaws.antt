@@ -18,9 +18,10 @@ use Rattle.plan.specs.Rules.{countsGood, taskGood, queueGood, badTask, badQueue
 use Rattle.plan.specs.Facts.{counts-iff}
 use Rattle.plan.specs.Sound.{Checked, checked-of, checked-usable}
 use Rattle.plan.specs.declared.Plan.{Plan}
+use Rattle.sizing.specs.Bounds.{largestSize, slots-small}
+use Rattle.sizing.specs.Cycle.{cycleShort, messagesFew}
 use Rattle.planning.specs.Table.{kept, counted, flatEntry, flat, tabled}
-use Rattle.planning.specs.Planning.{cycleShort, messagesFew, longQueue, leastSize, leastSizes}
-use Rattle.planning.specs.Bounds.{largestSize, slots-small}
+use Rattle.planning.specs.Planning.{longQueue, leastSize, leastSizes}
 
 pub counted-at : (limit n : ℕ) (values : List ℕ) (i : ℕ) → n ≤ limit → i < n → getD (counted limit n values) i 0 ≡ getD values i 0
 counted-at limit n values i f l = table-at (kept n values) limit i 0 (omega arith) ∙ rw (lt-ltb i n l)

@@ -1,10 +1,7 @@
 // Planning: from a task table to a plan with the least number of slots, or to the first refusal of rules 1 to 6.
-mod cycle; // cycle.rt: a queue's hyperperiod and the messages in it
 mod places; // places.rt: the sizes and places of all queues
-mod sizes; // sizes.rt: the least number of slots of one queue
 mod table; // table.rt: the table as a plan without sizes
 
-use cycle::cycle_short;
 use places::first_long;
 use places::sized;
 use plan::Plan;
@@ -13,6 +10,7 @@ use plan::refusal::Rule;
 use plan::rules::counts_good;
 use plan::rules::first_bad_queue;
 use plan::rules::first_bad_task;
+use sizing::cycle::cycle_short;
 use table::tabled;
 ghost use mathlib.Core.Path.{_≡_};
 ghost use Rattle.plan.specs.Refusals.{named};

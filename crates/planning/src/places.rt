@@ -1,14 +1,14 @@
 // The sizes and places of all queues of a table that has passed rules 1 to 3.
 use crate::Answer;
 use crate::Planned;
-use crate::cycle::cycle_good;
-use crate::cycle::hyperperiod_of;
 use crate::refused;
-use crate::sizes::slots_over;
 use crate::table::kept;
 use calendar::Multiple;
 use plan::Plan;
 use plan::refusal::Rule;
+use sizing::cycle::cycle_good;
+use sizing::cycle::hyperperiod_of;
+use sizing::sizes::slots_over;
 ghost use mathlib.Core.Path.{_≡_};
 ghost use Prim.Native.Nat.{ℕ, _<_, _≤_};
 ghost use lib.Dec.{ltb};
@@ -16,8 +16,8 @@ ghost use lib.ListN.{getD};
 ghost use Rattle.common.specs.Totals.{only, sum};
 ghost use Rattle.plan.specs.Limits.{queueLimit};
 ghost use Rattle.plan.specs.Sound.{Checked};
+ghost use Rattle.sizing.specs.Bounds.{largestSize};
 ghost use Rattle.planning.specs.Planning.{longQueue, leastSize, leastSizes, runningPlaces, slotsJudged};
-ghost use Rattle.planning.specs.Bounds.{largestSize};
 
 // Rules 4 and 5: the first queue that breaks one of them, and the count where none does.
 pub fn first_long(table: Plan) -> usize

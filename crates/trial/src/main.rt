@@ -1,64 +1,95 @@
-// Planning and the three lookups on tables in plain text. What the library answers is printed, a line for each command, so that it
-// can be compared with what the independent program prints for the same text. Nothing here decides: the answers are the library's.
-mod answers; // answers.rt: a line of the text, answered
+// The library's functions on tables, plans, states and memory in plain text, good and damaged ones. What the library answers is
+// printed, so that it can be compared with what the independent program reckons for the same text. Nothing here decides: the answers
+// are the library's, and all that is proved of this program is that it is safe and ends. second/calls.rs lists the commands.
+mod run; // run.rt: the lines on a state and the memory
+mod table; // table.rt: the lines on a table and its plan
+mod text; // text.rt: words and numbers
 
-use answers::Desk;
-use answers::line_taken;
-use trial_text::lines::Source;
-use trial_text::lines::command_end;
-use trial_text::lines::flushed;
-use trial_text::lines::next_line;
-use trial_text::lines::written;
+use libc::STDIN_FILENO;
+use mailbox::Received;
+use mailbox::Receiving;
+use mailbox::State;
+use plan::Plan;
+use run::run_after;
+use table::look_up;
+use table::plan_after;
+use table::table_after;
+use text::Line;
 
-// The desk and the text after a line, and the length of the answers that are waiting to be written.
-struct Turn {
-    desk: Desk,
-    source: Source,
-    said: usize,
+// The longest text that is read; what is longer is cut.
+const TEXT: usize = 131_072;
+
+// What a line finds and leaves. The plan is that of the table as it stood at the last line `plan`, and altered since.
+struct Desk {
+    table: Plan,
+    plan: Plan,
+    run: Receiving,
+    // how much of the buffer is lent as memory
+    lent: usize,
 }
 
-// Reads the next line and answers it. At the end of the text there is none, which is as good as an empty one.
-fn next_answered(
-    before: Desk,
-    from: Source,
-    piece: &mut [u8],
-    line: &mut [u8],
-    out: &mut [u8],
-    said: usize,
-) -> Turn {
-    let source = next_line(piece, line, from);
-    let end = command_end(line, source.used);
-    let a = line_taken(before, &line[..end], out, said);
-    let desk = a.desk;
-    Turn {
-        desk,
-        source,
-        said: flushed(out, a.said),
+// How much of the buffer is lent after a line: `memory LENGTH BYTE` asks for so many bytes, all of them BYTE.
+fn lent_after(before: usize, line: Line, buffer: &mut [u8]) -> usize {
+    if line.word != b'm' {
+        return before;
+    }
+    let byte = (line.value[1] % 256) as u8;
+    for k in 0..buffer.len() {
+        buffer[k] = byte;
+    }
+    line.value[0] as usize
+}
+
+// The desk after a line: each part knows its own lines, and any other line leaves it as it was.
+fn desk_after(desk: Desk, text: &[u8], buffer: &mut [u8]) -> Desk {
+    let line = Line::of(text);
+    let old_table = desk.table;
+    let old_plan = desk.plan;
+    let old_run = desk.run;
+    let table = table_after(old_table, line);
+    let plan = plan_after(old_plan, table, line);
+    look_up(plan, line);
+    let lent = lent_after(desk.lent, line, buffer);
+    if buffer.len() < lent {
+        return desk;
+    }
+    let run = run_after(old_run, plan, line, &mut buffer[..lent]);
+    Desk {
+        table,
+        plan,
+        run,
+        lent,
     }
 }
 
-// A proved loop has to end, and nothing says that the text does: the loop counts its turns down from a number that no run uses up.
-fn all_answered(piece: &mut [u8], line: &mut [u8], out: &mut [u8]) {
-    let mut desk = Desk::fresh();
-    let mut source = Source::fresh();
-    let mut said: usize = 0;
-    let mut turns = u64::MAX;
-    while turns > 0 {
-        let t = next_answered(desk, source, piece, line, out, said);
-        desk = t.desk;
-        source = t.source;
-        said = t.said;
-        if !source.is_line {
-            written(out, said);
-            return;
+// Plays each line of the text that has its end.
+fn play(text: &[u8], buffer: &mut [u8]) {
+    let mut desk = Desk {
+        table: Plan::zeros(),
+        plan: Plan::zeros(),
+        run: Receiving {
+            answer: Received::Empty,
+            state: State::fresh(),
+        },
+        lent: 0,
+    };
+    let mut at: usize = 0;
+    let mut end: usize = 0;
+    while end < text.len() {
+        if text[end] != b'\n' {
+            end += 1;
+            continue;
         }
-        turns -= 1;
+        let line = &text[at..end];
+        end += 1;
+        at = end;
+        desk = desk_after(desk, line, buffer);
     }
 }
 
 fn main() {
-    let mut piece = io::buffer();
-    let mut line = io::buffer();
-    let mut out = io::large_buffer();
-    all_answered(&mut piece, &mut line, &mut out);
+    let mut text = [0u8; TEXT];
+    let mut buffer = io::large_buffer();
+    let n = io::read_full(STDIN_FILENO, &mut text);
+    play(&text[..n], &mut buffer);
 }

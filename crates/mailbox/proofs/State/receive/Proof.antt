@@ -1,9 +1,14 @@
--- `State::receive`: a look and a step on; every look's answer can be stepped on (`look-steps`).
-use mathlib.Core.Path.{_≡_}
+-- `State::receive`: rule 7, and then a look and a step on; every look's answer can be stepped on (`look-steps`).
+use mathlib.Core.Bool.{false}
 use mathlib.Core.List.{List}
+use mathlib.Core.Path.{_≡_, refl, sym}
 use Prim.Native.Nat.{ℕ}
 use borrow.Author.Needs.{needs}
+use Rattle.common.specs.Tests.{failed, passed}
+use Rattle.plan.specs.Refusals.{unnamed}
+use Rattle.plan.specs.Rules.{soundPlan}
 use Rattle.plan.specs.declared.Plan.{Plan}
+use Rattle.plan.specs.declared.refusal.Rule.the-variants.{UnsoundPlan}
 use Rattle.mailbox.specs.Calls.{look, steppedOn, receiveState}
 use Rattle.mailbox.specs.Stepping.{look-steps}
 use Rattle.mailbox.specs.Outcomes.{receiving}
@@ -13,20 +18,41 @@ use Rattle.mailbox.specs.declared.Receiving.{Receiving}
 use Rattle.mailbox.proofs.State.receive.Statement.{statement}
 use Rattle.mailbox.proofs.State.receive.Tie as tie
 
+seven : (s : State) (p : Plan) (m : List ℕ) (q t : ℕ) → soundPlan p ≡ false → Received.Refused (unnamed UnsoundPlan) ≡ look s p m q t
+unfolding look
+seven s p m q t h = rw h
+
 made : (s : State) (p : Plan) (m : List ℕ) (q t : ℕ) (a : Received) (s′ : State) → a ≡ look s p m q t → s′ ≡ steppedOn s q t a →
     _≡_ {A = Receiving} (record { answer = a; state = s′ }) (receiving s p m q t)
 unfolding receiveState
 made s p m q t a s′ e f = rw (f, e)
 
-stepped-on-requires : tie.Need-stepped-on-requires
-stepped-on-requires c κs =
-    let a = c .before .before .args in
-    rw (c .look .ensures) (look-steps (a .self) (a .plan) (a .memory .now) (a .queue) (a .at .0))
-
 returns : tie.Need-returns
 returns c =
-    let a = c .before .before .before .args in
-    made (a .self) (a .plan) (a .memory .now) (a .queue) (a .at .0) _ _ (c .before .look .ensures) (c .stepped-on .ensures)
+    let u = c .before in
+    let a = u .before .before .args in
+    made (a .t1) (a .plan) (a .memory .now) (a .queue) (a .at .0) _ _
+    (seven (a .t1) (a .plan) (a .memory .now) (a .queue) (a .at .0) (failed (u .sound .ensures) (c .if1 .taken))) refl
+
+receive-on-requires : tie.Need-receive-on-requires
+receive-on-requires c κs =
+    let i = c .before .before .before .before in
+    passed (i .before .sound .ensures) (i .if1 .left)
+
+stepped-on-requires : tie.Need-stepped-on-requires
+stepped-on-requires c κs =
+    let r = c .before .before in
+    let a = r .before .before .before .before .before .before .args in
+    rw (c .receive-on .ensures (a .t1) (record { tick = refl; place = λ h. sym (r .reading-of .ensures h) }))
+    (look-steps (a .t1) (a .plan) (a .memory .now) (a .queue) (a .at .0))
+
+returns-2 : tie.Need-returns-2
+returns-2 c =
+    let r = c .before .before .before in
+    let a = r .before .before .before .before .before .before .args in
+    made (a .t1) (a .plan) (a .memory .now) (a .queue) (a .at .0) _ _
+    (c .before .receive-on .ensures (a .t1) (record { tick = refl; place = λ h. sym (r .reading-of .ensures h) })) (c .stepped-on .ensures)
 
 pub receive-spec : {M : Type 1} → statement M
-receive-spec = tie.close (tie.spec (λ c κs. search needs) stepped-on-requires returns)
+receive-spec =
+    tie.close (tie.spec (λ c κs. search needs) returns (λ c κs. search needs) receive-on-requires stepped-on-requires returns-2)

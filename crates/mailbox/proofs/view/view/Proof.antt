@@ -14,7 +14,7 @@ use Rattle.common.specs.Tests.{tests}
 use Rattle.calendar.specs.declared.Number.{Number}
 use Rattle.calendar.specs.declared.Slot.{Slot}
 use Rattle.plan.specs.Limits.{payloadBytes, slotBytes}
-use Rattle.mailbox.specs.Slots.{slotAt, payloadIn}
+use Rattle.slots.specs.Slots.{slotAt, payloadIn}
 use Rattle.mailbox.specs.View.{viewOf, placeOf, after, slotInside, fillerFits}
 use Rattle.mailbox.specs.declared.Received.{Received}
 use Rattle.mailbox.proofs.Received.{the-type}

@@ -6,7 +6,8 @@ use borrow.Author.Needs.{needs}
 use borrow.Author.Tests.{not-true, not-false}
 use Rattle.common.specs.Rows.{firstBad, firstBad-none, firstBad-more, firstBad-found}
 use Rattle.plan.specs.Sound.{checked-usable}
-use Rattle.planning.specs.Planning.{cycleShort, messagesFew, longQueue}
+use Rattle.sizing.specs.Cycle.{cycleShort, messagesFew}
+use Rattle.planning.specs.Planning.{longQueue}
 use Rattle.planning.proofs.places.first_long.Statement.{statement}
 use Rattle.planning.proofs.places.first_long.Tie as tie
 

@@ -7,7 +7,7 @@ use lib.Dec.{ltb}
 use lib.ListN.{length, take, getD}
 use Rattle.common.specs.Totals.{only, sum, sum-none, sum-next}
 use Rattle.common.specs.Table.{table, table-none, table-more, table-all}
-use Rattle.planning.specs.Bounds.{largestSize}
+use Rattle.sizing.specs.Bounds.{largestSize}
 use Rattle.planning.proofs.places.places_of.Statement.{statement}
 use Rattle.planning.proofs.places.places_of.Tie as tie
 

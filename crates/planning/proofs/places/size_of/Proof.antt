@@ -8,13 +8,13 @@ use borrow.Author.Tests.{leb-true, lt-ltb}
 use Rattle.common.specs.Tests.{tests, and-left}
 use Rattle.common.specs.Rows.{firstBad-is}
 use Rattle.model.specs.Model.{hyperperiod, slots}
-use Rattle.model.specs.Multiple.{hyperperiod-common}
 use Rattle.calendar.specs.Calendar.{capped-within, capped-over}
 use Rattle.plan.specs.Limits.{longestHyperperiod}
 use Rattle.plan.specs.Plan.{queueAt}
 use Rattle.plan.specs.Sound.{checked-usable}
 use Rattle.plan.specs.declared.Plan.{Plan}
-use Rattle.planning.specs.Planning.{cycleShort, messagesFew, longQueue}
+use Rattle.sizing.specs.Cycle.{cycleShort, messagesFew}
+use Rattle.planning.specs.Planning.{longQueue}
 use Rattle.planning.proofs.places.size_of.Statement.{statement}
 use Rattle.planning.proofs.places.size_of.Tie as tie
 
@@ -43,10 +43,8 @@ slots-requires : tie.Need-slots-over-requires
 slots-requires c κs =
     let h = c .before .before .before in
     let k = h .before .before .before in
-    let q = queueAt (k .args .table) (k .args .queue) in
-    let u = checked-usable (k .pre .0) (k .args .queue) (h .before .if1 .left) in
-    let w = capped-within longestHyperperiod (hyperperiod q) _ (sym (h .hyperperiod-of .ensures) ∙ c .before .cycle .given .1) in
-    (u, rw (w .0) (hyperperiod-common q (u .valid)), rw (w .0) (w .1))
+    let w = capped-within longestHyperperiod (hyperperiod (queueAt (k .args .table) (k .args .queue))) _ (sym (h .hyperperiod-of .ensures) ∙ c .before .cycle .given .1) in
+    (checked-usable (k .pre .0) (k .args .queue) (h .before .if1 .left), rw (w .0) (w .1))
 
 returns-3 : tie.Need-returns-3
 unfolding slots

@@ -5,7 +5,7 @@ use mathlib.Core.Path.{_≡_}
 use borrow.Author.Needs.{needs}
 use lib.ListN.{getD}
 use Rattle.common.specs.Totals.{sum, sum-none, sum-next}
-use Rattle.planning.specs.Bounds.{largestSize}
+use Rattle.sizing.specs.Bounds.{largestSize}
 use Rattle.planning.proofs.places.total_of.Statement.{statement}
 use Rattle.planning.proofs.places.total_of.Tie as tie
 

@@ -1,0 +1,66 @@
+-- The columns of a plan, as the functions here are lent them, and the queue that they make. The receiver is not among them, and nothing
+-- here asks for it: row 0 stands in its place. A plan's own columns make the counts of its queue (`upTo-columns` and the laws after it).
+use Prim.Native.Nat.{ℕ, _+_, _-_, _*_, _<_, _≤_}
+use native.Mathlib.Omega.{arith}
+use mathlib.Core.Bool.{Bool, false}
+use mathlib.Core.List.{List}
+use mathlib.Core.Path.{_≡_, refl}
+use lib.ListN.{getD}
+use Rattle.model.specs.Model.{Queue, Valid, dueAt, precedes, upTo, followers, tickOf, sentBy, senderOf}
+use Rattle.plan.specs.Limits.{taskLimit, queueLimit}
+use Rattle.plan.specs.Plan.{queueAt, Usable}
+use Rattle.plan.specs.declared.Plan.{Plan}
+
+abbrev pub columnsAt : List Bool → List ℕ → List ℕ → ℕ → ℕ → Queue
+columnsAt sends period deadline tasks q = record {
+  rows = tasks;
+  period = λ i. getD period i 0;
+  deadline = λ i. getD deadline i 0;
+  sends = λ i. getD sends (q * taskLimit + i) false;
+  receiver = 0;
+}
+
+-- equation 2 at the tick of a deadline
+abbrev pub numberDue : Queue → ℕ → ℕ → ℕ
+numberDue q t i = upTo q t - followers q t i
+
+-- what rules 1 to 3 leave of the columns
+pub record Lent (sends : List Bool) (period deadline : List ℕ) (tasks q : ℕ) : Type 0 where
+  pub tasks-fit : tasks ≤ taskLimit
+  pub queue-fits : q < queueLimit
+  pub valid : Valid (columnsAt sends period deadline tasks q)
+
+module _ (p : Plan) (q : ℕ) where
+  abbrev pub planColumns : Queue
+  planColumns = columnsAt (p .sends) (p .period) (p .deadline) (p .tasks) q
+
+  pub lent : Usable p q → Lent (p .sends) (p .period) (p .deadline) (p .tasks) q
+  lent u = record {
+    tasks-fit = u .tasks-fit;
+    queue-fits = u .queue-fits;
+    valid = record {
+      receiver-row = omega (arith, u .valid .receiver-row);
+      deadline-pos = u .valid .deadline-pos;
+      deadline-fits = u .valid .deadline-fits;
+    };
+  }
+
+  pub upTo-columns : (t : ℕ) → upTo planColumns t ≡ upTo (queueAt p q) t
+  unfolding upTo
+  upTo-columns t = refl
+
+  pub numberDue-columns : (t i : ℕ) → numberDue planColumns t i ≡ numberDue (queueAt p q) t i
+  unfolding upTo followers dueAt precedes
+  numberDue-columns t i = refl
+
+  pub tickOf-columns : (most n : ℕ) → tickOf planColumns most n ≡ tickOf (queueAt p q) most n
+  unfolding tickOf upTo
+  tickOf-columns most n = refl
+
+  pub sentBy-columns : (t n i : ℕ) → sentBy planColumns t n i ≡ sentBy (queueAt p q) t n i
+  unfolding upTo followers dueAt precedes
+  sentBy-columns t n i = refl
+
+  pub senderOf-columns : (most n : ℕ) → senderOf planColumns most n ≡ senderOf (queueAt p q) most n
+  unfolding senderOf tickOf upTo followers dueAt precedes
+  senderOf-columns most n = refl

@@ -1,0 +1,77 @@
+-- Which lines of the table of refusals each running call tests, in document 01's order: "Running calls test 7, 8, 14, 9, 11, 10, 12, 13,
+-- as far as each applies". Of the state the lines see two numbers: `before`, its tick, and `sent`, the job after the last one that the
+-- task sent into the queue.
+use Prim.Native.Nat.{ℕ, _*_, _/_}
+use mathlib.Core.Bool.{Bool, not, _||_}
+use mathlib.Core.List.{List, [], _∷_}
+use lib.Dec.{leb, ltb, eqb}
+use lib.ListN.{length}
+use Rattle.model.specs.Model.{Queue, due, receiverPeriod, deadlineOf, wantedFor}
+use Rattle.plan.specs.Limits.{lastTick, payloadBytes, slotBytes}
+use Rattle.plan.specs.Plan.{queueAt, slotsOf}
+use Rattle.plan.specs.Refusals.{Line, _gives_, unnamed}
+use Rattle.plan.specs.Rules.{soundPlan, connected}
+use Rattle.plan.specs.declared.Plan.{Plan}
+use Rattle.plan.specs.declared.refusal.Rule.the-variants.{UnsoundPlan, ShortMemory, NoSuchSender, TickBeforeState, PastLastTick, JobOver, SentAlready, PayloadLength}
+
+-- 7 and 8, which every running call tests first
+abbrev pub groundLines : Plan → List ℕ → List Line → List Line
+groundLines p m lines =
+    not (soundPlan p) gives unnamed UnsoundPlan ∷ ltb (length m) (slotsOf p * slotBytes) gives unnamed ShortMemory ∷ lines
+
+-- a task's job that was released last at tick t, and the receiver's
+abbrev pub runningJob : Queue → ℕ → ℕ → ℕ
+runningJob q i t = t / q .period i
+
+abbrev pub receivingJob : Queue → ℕ → ℕ
+receivingJob q t = t / receiverPeriod q
+
+-- the tick that lies so many ticks after the release of a job that was released last at tick t, of a task with period P
+abbrev pub ending : ℕ → ℕ → ℕ → ℕ
+ending P after t = due P after (t / P)
+
+abbrev pub runningDeadline : Queue → ℕ → ℕ → ℕ
+runningDeadline q i t = deadlineOf q i (runningJob q i t)
+
+-- "a recorded send of this job or a later one counts as sent"
+abbrev pub sentAlready : ℕ → ℕ → Bool
+sentAlready sent k = ltb k sent
+
+-- ## Start: 7, 8
+
+abbrev pub startLines : Plan → List ℕ → List Line
+startLines p m = groundLines p m []
+
+-- ## Send: 7, 8, 14, 9, 11, 10, 12, 13
+
+-- 11, 10, 12, 13, of a sender with period P and deadline D
+abbrev pub runningLines : ℕ → ℕ → ℕ → ℕ → ℕ → List Line
+runningLines before sent P D t =
+    (ltb lastTick t || ltb lastTick (ending P D t)) gives unnamed PastLastTick
+    ∷ ltb t before gives unnamed TickBeforeState
+    ∷ leb (ending P D t) t gives unnamed JobOver
+    ∷ sentAlready sent (t / P) gives unnamed SentAlready
+    ∷ []
+
+abbrev pub sendLines : ℕ → ℕ → Plan → List ℕ → ℕ → ℕ → ℕ → List ℕ → List Line
+sendLines before sent p m q i t payload =
+    groundLines p m
+    (not (eqb (length payload) payloadBytes) gives unnamed PayloadLength
+    ∷ not (connected p q i) gives unnamed NoSuchSender
+    ∷ runningLines before sent (queueAt p q .period i) (queueAt p q .deadline i) t)
+
+-- ## Receive: 7, 8, 9, 11, 10, 12
+
+-- 11, 10, 12, of a receiver with period P, whose job wants its messages for so many ticks
+abbrev pub wantingLines : ℕ → ℕ → ℕ → ℕ → List Line
+wantingLines since P wanted t =
+    ltb lastTick t gives unnamed PastLastTick
+    ∷ ltb t since gives unnamed TickBeforeState
+    ∷ leb (ending P wanted t) t gives unnamed JobOver
+    ∷ []
+
+abbrev pub receiveLines : ℕ → Plan → List ℕ → ℕ → ℕ → List Line
+receiveLines before p m q t =
+    groundLines p m
+    (not (ltb q (p .queues)) gives unnamed NoSuchSender
+    ∷ wantingLines before (receiverPeriod (queueAt p q)) (wantedFor (queueAt p q)) t)

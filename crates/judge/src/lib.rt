@@ -1,0 +1,184 @@
+// The tests of the running calls behind rule 7, in the order in which document 01 has them: the first that fails says the refusal. They
+// are inner functions: rule 7 is the caller's, since a caller that keeps its plan needs to test it only once. What is reckoned for a
+// test fits its type, because the tests before it have passed.
+use calendar::Tick;
+use calendar::deadline_of;
+use calendar::job_at;
+use numbering::receiver::wanted_for;
+use plan::Plan;
+use plan::refusal::Refusal;
+use plan::refusal::Rule;
+use plan::refusal::Verdict;
+ghost use mathlib.Core.Path.{_≡_};
+ghost use mathlib.Core.Bool.{true, false, _&&_};
+ghost use Prim.Native.Nat.{_+_, _-_, _*_, _≤_};
+ghost use lib.Dec.{ltb};
+ghost use lib.ListN.{getD};
+ghost use Rattle.calendar.specs.Calendar.{tick};
+ghost use Rattle.plan.specs.Limits.{taskLimit, queueLimit, longestPeriod, mostSlots, lastTick, slotBytes};
+ghost use Rattle.plan.specs.Refusals.{unnamed};
+ghost use Rattle.plan.specs.Rules.{soundPlan};
+ghost use Rattle.plan.specs.Verdicts.{verdict};
+ghost use Rattle.plan.specs.declared.refusal.Verdict.{Verdict};
+ghost use Rattle.judge.specs.Lines.{ending, startLines, runningLines, sendLines, wantingLines, receiveLines};
+
+// None of the running calls' refusals names a row.
+fn refused(rule: Rule) -> Verdict
+    ensures { λ r. ⌜ r ≡ Verdict.Refused (unnamed rule) ⌝ }
+{
+    Verdict::Refused(Refusal { rule, row: 0 })
+}
+
+// The slots of all queues of a plan, from its columns of sizes and places: the last queue's are the last in memory.
+pub fn slots_of<'a>(
+    queues: usize,
+    size: &'a [usize; Plan::QUEUES],
+    place: &'a [usize; Plan::QUEUES],
+) -> usize
+    requires { ⌜ (1 ≤ queues) × (queues ≤ queueLimit) × (getD (now place) (queues - 1) 0 + getD (now size) (queues - 1) 0 ≤ mostSlots) ⌝ }
+    ensures { λ r. ⌜ r ≡ getD (now (place .entry)) (queues - 1) 0 + getD (now (size .entry)) (queues - 1) 0 ⌝ }
+{
+    let last = queues - 1;
+    place[last] + size[last]
+}
+
+// Whether a memory of so many bytes does not hold the slots.
+fn short<'a>(
+    bytes: usize,
+    queues: usize,
+    size: &'a [usize; Plan::QUEUES],
+    place: &'a [usize; Plan::QUEUES],
+) -> bool
+    requires { ⌜ (1 ≤ queues) × (queues ≤ queueLimit) × (getD (now place) (queues - 1) 0 + getD (now size) (queues - 1) 0 ≤ mostSlots) ⌝ }
+    ensures { λ r. ⌜ r ≡ ltb bytes ((getD (now (place .entry)) (queues - 1) 0 + getD (now (size .entry)) (queues - 1) 0) * slotBytes) ⌝ }
+{
+    bytes < slots_of(queues, size, place) * Plan::SLOT_BYTES
+}
+
+// Rule 8.
+pub fn judge_start(plan: Plan, memory: &[u8]) -> Verdict
+    requires { ⌜ soundPlan plan ≡ true ⌝ }
+    ensures { λ r. ⌜ r ≡ verdict (startLines plan (now (memory .entry))) ⌝ }
+{
+    if short(memory.len(), plan.queues, &plan.size, &plan.place) {
+        return refused(Rule::ShortMemory);
+    }
+    Verdict::Clear
+}
+
+// The tick that lies `after` ticks behind the release of the job that was released last.
+fn end_of_job(period: u64, after: u64, at: Tick) -> Tick
+    requires { ⌜ (1 ≤ period) × (after ≤ longestPeriod) × (at .0 ≤ lastTick) ⌝ }
+    ensures { λ r. ⌜ r ≡ tick (ending period after (at .0)) ⌝ }
+{
+    let job = job_at(period, at);
+    deadline_of(period, after, job)
+}
+
+// Rules 11, 10, 12, 13 of a sender: `last` is the state's tick, and `sent` the job after the last one that it sent.
+fn judge_running(period: u64, deadline: u64, at: Tick, last: Tick, sent: u64) -> Verdict
+    requires { ⌜ (1 ≤ period) × (deadline ≤ longestPeriod) ⌝ }
+    ensures { λ r. ⌜ r ≡ verdict (runningLines (last .0) sent period deadline (at .0)) ⌝ }
+{
+    if Plan::LAST_TICK < at.0 {
+        return refused(Rule::PastLastTick);
+    }
+    let end = end_of_job(period, deadline, at);
+    if Plan::LAST_TICK < end.0 {
+        return refused(Rule::PastLastTick);
+    }
+    if at.0 < last.0 {
+        return refused(Rule::TickBeforeState);
+    }
+    if end.0 <= at.0 {
+        return refused(Rule::JobOver);
+    }
+    if at.0 / period < sent {
+        return refused(Rule::SentAlready);
+    }
+    Verdict::Clear
+}
+
+// Rule 9, from the plan's counts and connections: whether the task sends into the queue, and both are there.
+fn connected(
+    queues: usize,
+    tasks: usize,
+    sends: &[bool; Plan::CELLS],
+    queue: usize,
+    task: usize,
+) -> bool
+    requires { ⌜ (queues ≤ queueLimit) × (tasks ≤ taskLimit) ⌝ }
+    ensures { λ r. ⌜ r ≡ (ltb queue queues && (ltb task tasks && getD (now (sends .entry)) (queue * taskLimit + task) false)) ⌝ }
+{
+    if queues <= queue {
+        return false;
+    }
+    if tasks <= task {
+        return false;
+    }
+    sends[queue * Plan::TASKS + task]
+}
+
+// Rules 8, 14, 9, 11, 10, 12, 13.
+pub fn judge_send(
+    plan: Plan,
+    memory: &[u8],
+    queue: usize,
+    task: usize,
+    at: Tick,
+    payload: &[u8],
+    last: Tick,
+    sent: u64,
+) -> Verdict
+    requires { ⌜ soundPlan plan ≡ true ⌝ }
+    ensures { λ r. ⌜ r ≡ verdict (sendLines (last .0) sent plan (now (memory .entry)) queue task (at .0) (now (payload .entry))) ⌝ }
+{
+    if short(memory.len(), plan.queues, &plan.size, &plan.place) {
+        return refused(Rule::ShortMemory);
+    }
+    if payload.len() != Plan::PAYLOAD_BYTES {
+        return refused(Rule::PayloadLength);
+    }
+    if !connected(plan.queues, plan.tasks, &plan.sends, queue, task) {
+        return refused(Rule::NoSuchSender);
+    }
+    judge_running(plan.period[task], plan.deadline[task], at, last, sent)
+}
+
+// Rules 11, 10, 12 of a receiver, whose job wants its messages for so many ticks: `last` is the state's tick.
+fn judge_wanting(period: u64, wanted: u64, at: Tick, last: Tick) -> Verdict
+    requires { ⌜ (1 ≤ period) × (wanted ≤ longestPeriod) ⌝ }
+    ensures { λ r. ⌜ r ≡ verdict (wantingLines (last .0) period wanted (at .0)) ⌝ }
+{
+    if Plan::LAST_TICK < at.0 {
+        return refused(Rule::PastLastTick);
+    }
+    if at.0 < last.0 {
+        return refused(Rule::TickBeforeState);
+    }
+    let until = end_of_job(period, wanted, at);
+    if until.0 <= at.0 {
+        return refused(Rule::JobOver);
+    }
+    Verdict::Clear
+}
+
+// Rules 8, 9, 11, 10, 12.
+pub fn judge_receive(plan: Plan, memory: &[u8], queue: usize, at: Tick, last: Tick) -> Verdict
+    requires { ⌜ soundPlan plan ≡ true ⌝ }
+    ensures { λ r. ⌜ r ≡ verdict (receiveLines (last .0) plan (now (memory .entry)) queue (at .0)) ⌝ }
+{
+    if short(memory.len(), plan.queues, &plan.size, &plan.place) {
+        return refused(Rule::ShortMemory);
+    }
+    if plan.queues <= queue {
+        return refused(Rule::NoSuchSender);
+    }
+    let receiver = plan.receiver[queue];
+    judge_wanting(
+        plan.period[receiver],
+        wanted_for(plan.deadline[receiver]),
+        at,
+        last,
+    )
+}

@@ -1,0 +1,4 @@
+pub mod Lookups
+pub mod Says
+pub mod Unique
+pub mod Inverse

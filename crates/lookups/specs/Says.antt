@@ -1,0 +1,74 @@
+-- What the lookups answer in document 01's numbers: the number of the rule that refuses, 0 where none does, and the values.
+-- `row`, the value of a refusal, is 0 in all of them: "all others name 0".
+use Prim.Native.Nat.{ℕ}
+use mathlib.Core.Bool.{cond, not}
+use mathlib.Core.List.{List, [], _∷_}
+use mathlib.Core.Path.{_≡_}
+use lib.Dec.{ltb, eqb}
+use Rattle.model.specs.Model.{receiverPeriod, released, deadlineOf, number, upTo, senderOf, jobOf, first, last}
+use Rattle.calendar.specs.declared.Job.{Job}
+use Rattle.calendar.specs.declared.Number.{Number}
+use Rattle.plan.specs.Limits.{lastTick}
+use Rattle.plan.specs.Plan.{queueAt}
+use Rattle.plan.specs.Refusals.{numberOf}
+use Rattle.plan.specs.Verdicts.{judged-map}
+use Rattle.plan.specs.Rules.{soundPlan, connected}
+use Rattle.plan.specs.declared.Plan.{Plan}
+use Rattle.plan.specs.declared.refusal.Refusal.{Refusal}
+use Rattle.lookups.specs.declared.Numbered.{Numbered}
+use Rattle.lookups.specs.declared.Origins.{Origins}
+use Rattle.lookups.specs.declared.Window.{Window}
+use Rattle.lookups.specs.Lookups.{numberLines, numberedOf, originLines, originsOf, windowLines, windowOf}
+
+abbrev pub Said : Type 0
+Said = ℕ × List ℕ
+
+abbrev pub refusedSays : Refusal → Said
+refusedSays r = (numberOf (r .rule), r .row ∷ [])
+
+-- the number
+abbrev pub numberedSays : Numbered → Said
+numberedSays (Numbered.Is n) = (0, n .0 ∷ [])
+numberedSays (Numbered.Refused r) = refusedSays r
+
+-- sender and job
+abbrev pub originsSays : Origins → Said
+originsSays (Origins.From i k) = (0, i ∷ k .0 ∷ [])
+originsSays (Origins.Refused r) = refusedSays r
+
+-- first and last number
+abbrev pub windowSays : Window → Said
+windowSays (Window.Numbers a b) = (0, a .0 ∷ b .0 ∷ [])
+windowSays (Window.Refused r) = refusedSays r
+
+abbrev pub no : ℕ → Said
+no rule = (rule, 0 ∷ [])
+
+-- "lookups 7, 9, then 11 or 15"
+pub number-says : (p : Plan) (q i : ℕ) (k : Job) →
+    numberedSays (numberedOf p q i k) ≡
+    cond (not (soundPlan p)) (no 7)
+    (cond (not (connected p q i)) (no 9)
+    (cond (ltb lastTick (deadlineOf (queueAt p q) i (k .0))) (no 11)
+    (0, number (queueAt p q) i (k .0) ∷ [])))
+unfolding numberedOf
+number-says p q i k = judged-map numberedSays (numberLines p q i k) Numbered.Refused _
+
+pub origins-says : (p : Plan) (q : ℕ) (n : Number) →
+    originsSays (originsOf p q n) ≡
+    cond (not (soundPlan p)) (no 7)
+    (cond (not (ltb q (p .queues))) (no 9)
+    (cond (eqb (n .0) 0) (no 15)
+    (cond (ltb (upTo (queueAt p q) lastTick) (n .0)) (no 15)
+    (0, senderOf (queueAt p q) lastTick (n .0) ∷ jobOf (queueAt p q) lastTick (n .0) ∷ []))))
+unfolding originsOf
+origins-says p q n = judged-map originsSays (originLines p q n) Origins.Refused _
+
+pub window-says : (p : Plan) (q : ℕ) (m : Job) →
+    windowSays (windowOf p q m) ≡
+    cond (not (soundPlan p)) (no 7)
+    (cond (not (ltb q (p .queues))) (no 9)
+    (cond (ltb lastTick (released (receiverPeriod (queueAt p q)) (m .0))) (no 11)
+    (0, first (queueAt p q) (m .0) ∷ last (queueAt p q) (m .0) ∷ [])))
+unfolding windowOf
+window-says p q m = judged-map windowSays (windowLines p q m) Window.Refused _

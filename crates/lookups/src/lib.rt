@@ -1,0 +1,121 @@
+// The three lookups: number, way back and window. They take any plan and any numbers, test rules 7, 9, then 11 or 15, and change nothing.
+use calendar::Job;
+use calendar::Number;
+use calendar::Tick;
+use numbering::number::first_number;
+use numbering::number::last_number;
+use numbering::number::number_at;
+use numbering::number::up_to;
+use numbering::origin::origin_of;
+use numbering::reach::connected;
+use numbering::reach::deadline_past;
+use numbering::reach::release_past;
+use plan::Plan;
+use plan::refusal::Refusal;
+use plan::refusal::Rule;
+use plan::rules::sound;
+ghost use mathlib.Core.Path.{_≡_};
+ghost use Rattle.lookups.specs.Lookups.{numberedOf, originsOf, windowOf};
+
+pub enum Numbered {
+    Is(Number),
+    Refused(Refusal),
+}
+
+// The sender's row and its job.
+pub enum Origins {
+    From(usize, Job),
+    Refused(Refusal),
+}
+
+// The first and the last number, the last one below the first where the window is empty.
+pub enum Window {
+    Numbers(Number, Number),
+    Refused(Refusal),
+}
+
+// The number of the message that a task's job sends into a queue.
+pub fn number_of(plan: Plan, queue: usize, task: usize, job: Job) -> Numbered
+    ensures { λ r. ⌜ r ≡ numberedOf plan queue task job ⌝ }
+{
+    if !sound(plan) {
+        return Numbered::Refused(Refusal {
+            rule: Rule::UnsoundPlan,
+            row: 0,
+        });
+    }
+    if !connected(plan, queue, task) {
+        return Numbered::Refused(Refusal {
+            rule: Rule::NoSuchSender,
+            row: 0,
+        });
+    }
+    if deadline_past(plan, queue, task, job) {
+        return Numbered::Refused(Refusal {
+            rule: Rule::PastLastTick,
+            row: 0,
+        });
+    }
+    let n = number_at(plan, queue, task, job);
+    Numbered::Is(n)
+}
+
+// The sender and the job of a queue's message.
+pub fn way_back(plan: Plan, queue: usize, n: Number) -> Origins
+    ensures { λ r. ⌜ r ≡ originsOf plan queue n ⌝ }
+{
+    if !sound(plan) {
+        return Origins::Refused(Refusal {
+            rule: Rule::UnsoundPlan,
+            row: 0,
+        });
+    }
+    if plan.queues <= queue {
+        return Origins::Refused(Refusal {
+            rule: Rule::NoSuchSender,
+            row: 0,
+        });
+    }
+    if n.0 == 0 {
+        return Origins::Refused(Refusal {
+            rule: Rule::NoSuchNumber,
+            row: 0,
+        });
+    }
+    if up_to(plan, queue, Tick(Plan::LAST_TICK)) < n.0 {
+        return Origins::Refused(Refusal {
+            rule: Rule::NoSuchNumber,
+            row: 0,
+        });
+    }
+    let origin = origin_of(plan, queue, n);
+    let job = origin.job;
+    Origins::From(origin.task, job)
+}
+
+// The numbers of the messages that a job of the queue's receiver is given.
+pub fn window_of(plan: Plan, queue: usize, job: Job) -> Window
+    ensures { λ r. ⌜ r ≡ windowOf plan queue job ⌝ }
+{
+    if !sound(plan) {
+        return Window::Refused(Refusal {
+            rule: Rule::UnsoundPlan,
+            row: 0,
+        });
+    }
+    if plan.queues <= queue {
+        return Window::Refused(Refusal {
+            rule: Rule::NoSuchSender,
+            row: 0,
+        });
+    }
+    if release_past(plan, queue, job) {
+        return Window::Refused(Refusal {
+            rule: Rule::PastLastTick,
+            row: 0,
+        });
+    }
+    let first = first_number(plan, queue, job);
+    let last = last_number(plan, queue, job);
+    Window::Numbers(first, last)
+}

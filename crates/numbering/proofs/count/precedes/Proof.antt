@@ -1,9 +1,0 @@
--- `count::precedes`: the model's rule for equal deadlines, word for word.
-use mathlib.Core.Path.{refl}
-use Rattle.model.specs.Model.{precedes}
-use Rattle.numbering.proofs.count.precedes.Statement.{statement}
-use Rattle.numbering.proofs.count.precedes.Tie as tie
-
-pub precedes-spec : {M : Type 1} → statement M
-unfolding precedes
-precedes-spec = tie.close (tie.spec (λ c. refl))

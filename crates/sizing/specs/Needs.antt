@@ -1,0 +1,36 @@
+-- `horizon`, `need` and `rowSlots` of the model, over columns that have no receiver: two numbers stand in its place, its period, here
+-- `chart`, and how long its messages are wanted. With a plan's own columns and numbers they are those of its queue.
+use Prim.Native.Nat.{ℕ, _+_, _-_, _/_, _<_, _≤_}
+use native.Mathlib.Nat.{div-mul-le-self, lt-of-not-le}
+use native.Mathlib.Omega.{arith}
+use mathlib.Core.Path.{_≡_, refl}
+use Rattle.common.specs.Totals.{most}
+use Rattle.model.specs.Model.{Queue, Valid, Sender, released, releaseOf, deadlineOf, dueAt, precedes, upTo, followers, number, receiverPeriod, wantedFor, horizon, outdated, need, rowSlots}
+use Rattle.model.specs.Number.{number-iff}
+use Rattle.plan.specs.Plan.{queueAt}
+use Rattle.plan.specs.declared.Plan.{Plan}
+use Rattle.counting.specs.Columns.{numberDue, planColumns}
+
+abbrev pub horizonFor : ℕ → ℕ → ℕ → ℕ
+horizonFor chart wanted r = released chart ((r - wanted) / chart)
+
+abbrev pub needFor : Queue → ℕ → ℕ → ℕ → ℕ → ℕ
+needFor q chart wanted i k = numberDue q (deadlineOf q i k) i - upTo q (horizonFor chart wanted (releaseOf q i k))
+
+abbrev pub rowSlotsFor : Queue → ℕ → ℕ → ℕ → ℕ → ℕ
+rowSlotsFor q chart wanted H i = most (λ k. needFor q chart wanted i (H / q .period i + k)) (H / q .period i)
+
+pub horizon-back : (chart wanted r : ℕ) → horizonFor chart wanted r ≤ r - wanted
+horizon-back chart wanted r = div-mul-le-self (r - wanted) chart
+
+-- a message is not among those that are outdated when its job is released
+pub outdated-less : (q : Queue) → Valid q → (chart wanted i k : ℕ) → Sender q i →
+    upTo q (horizonFor chart wanted (releaseOf q i k)) < numberDue q (deadlineOf q i k) i
+unfolding number
+outdated-less q v chart wanted i k s =
+    lt-of-not-le (λ h. omega (arith, number-iff q v i k s _ .0 h, horizon-back chart wanted (releaseOf q i k), v .deadline-pos i (s .row)))
+
+pub rowSlots-columns : (p : Plan) (q H i : ℕ) →
+    rowSlotsFor (planColumns p q) (receiverPeriod (queueAt p q)) (wantedFor (queueAt p q)) H i ≡ rowSlots (queueAt p q) H i
+unfolding rowSlots need number outdated horizon upTo followers dueAt precedes
+rowSlots-columns p q H i = refl

@@ -1,0 +1,159 @@
+// The least number of slots of a queue: the most that a job of the second hyperperiod asks for. The loop over the jobs is lent the
+// columns of the plan, because a plan by value would be copied for every job; it is told the receiver's period, `chart`, and how long its
+// messages are wanted.
+use calendar::Job;
+use calendar::Tick;
+use calendar::deadline_of;
+use calendar::release_of;
+use counting::count::up_to;
+use counting::number::number_due;
+use numbering::receiver::wanted_for;
+use plan::Plan;
+ghost use mathlib.Core.Path.{_≡_};
+ghost use Prim.Native.Nat.{_<_, _≤_, max};
+ghost use lib.ListN.{getD};
+ghost use Rattle.common.specs.Totals.{only};
+ghost use Rattle.model.specs.Model.{Sender, deadlineOf, slotsOver};
+ghost use Rattle.calendar.specs.Calendar.{tick};
+ghost use Rattle.plan.specs.Limits.{lastTick, longestPeriod, longestHyperperiod};
+ghost use Rattle.plan.specs.Plan.{queueAt, Usable};
+ghost use Rattle.counting.specs.Columns.{columnsAt, Lent};
+ghost use Rattle.sizing.specs.Needs.{horizonFor, needFor, rowSlotsFor};
+
+// The last deadline whose messages are outdated at a tick.
+fn horizon_at(chart: u64, wanted: u64, at: Tick) -> Tick
+    requires { ⌜ 1 ≤ chart ⌝ }
+    ensures { λ r. ⌜ r ≡ tick (horizonFor chart wanted (at .0)) ⌝ }
+{
+    if at.0 < wanted {
+        return Tick(0);
+    }
+    release_of(chart, Job((at.0 - wanted) / chart))
+}
+
+// The slots that a job's message asks for.
+fn need_of<'a>(
+    sends: &'a [bool; Plan::CELLS],
+    period: &'a [u64; Plan::TASKS],
+    deadline: &'a [u64; Plan::TASKS],
+    tasks: usize,
+    queue: usize,
+    chart: u64,
+    wanted: u64,
+    task: usize,
+    job: Job,
+) -> u64
+    requires { ⌜ Lent (now sends) (now period) (now deadline) tasks queue × (1 ≤ chart)
+        × Sender (columnsAt (now sends) (now period) (now deadline) tasks queue) task
+        × (deadlineOf (columnsAt (now sends) (now period) (now deadline) tasks queue) task (job .0) ≤ lastTick) ⌝ }
+    ensures { λ r. ⌜ r ≡ needFor (columnsAt (now (sends .entry)) (now (period .entry)) (now (deadline .entry)) tasks queue) chart wanted task (job .0) ⌝ }
+{
+    let due = deadline_of(period[task], deadline[task], job);
+    let number = number_due(sends, period, deadline, tasks, queue, due, task);
+    let release = release_of(period[task], job);
+    let horizon = horizon_at(chart, wanted, release);
+    number - up_to(sends, period, deadline, tasks, queue, horizon)
+}
+
+fn larger(a: u64, b: u64) -> u64
+    ensures { λ r. ⌜ r ≡ max a b ⌝ }
+{
+    if a < b { b } else { a }
+}
+
+// The most that a task's jobs of the second hyperperiod ask for.
+fn row_slots<'a>(
+    sends: &'a [bool; Plan::CELLS],
+    period: &'a [u64; Plan::TASKS],
+    deadline: &'a [u64; Plan::TASKS],
+    tasks: usize,
+    queue: usize,
+    chart: u64,
+    wanted: u64,
+    task: usize,
+    ticks: u64,
+) -> u64
+    requires { ⌜ Lent (now sends) (now period) (now deadline) tasks queue × (1 ≤ chart)
+        × Sender (columnsAt (now sends) (now period) (now deadline) tasks queue) task
+        × (getD (now period) task 0 ≤ longestPeriod) × (ticks ≤ longestHyperperiod) ⌝ }
+    ensures { λ r. ⌜ r ≡ rowSlotsFor (columnsAt (now (sends .entry)) (now (period .entry)) (now (deadline .entry)) tasks queue) chart wanted ticks task ⌝ }
+{
+    let jobs = ticks / period[task];
+    let mut most: u64 = 0;
+    for k in 0..jobs {
+        let job = Job(jobs + k);
+        let need = need_of(
+            sends,
+            period,
+            deadline,
+            tasks,
+            queue,
+            chart,
+            wanted,
+            task,
+            job,
+        );
+        most = larger(most, need);
+    }
+    most
+}
+
+// A row's share: nothing where it does not send.
+fn share<'a>(
+    sends: &'a [bool; Plan::CELLS],
+    period: &'a [u64; Plan::TASKS],
+    deadline: &'a [u64; Plan::TASKS],
+    tasks: usize,
+    queue: usize,
+    chart: u64,
+    wanted: u64,
+    task: usize,
+    ticks: u64,
+) -> u64
+    requires { ⌜ Lent (now sends) (now period) (now deadline) tasks queue × (1 ≤ chart) × (task < tasks)
+        × (getD (now period) task 0 ≤ longestPeriod) × (ticks ≤ longestHyperperiod) ⌝ }
+    ensures { λ r. ⌜ r ≡ only ((columnsAt (now (sends .entry)) (now (period .entry)) (now (deadline .entry)) tasks queue) .sends task)
+        (rowSlotsFor (columnsAt (now (sends .entry)) (now (period .entry)) (now (deadline .entry)) tasks queue) chart wanted ticks task) ⌝ }
+{
+    if sends[queue * Plan::TASKS + task] {
+        row_slots(
+            sends,
+            period,
+            deadline,
+            tasks,
+            queue,
+            chart,
+            wanted,
+            task,
+            ticks,
+        )
+    } else {
+        0
+    }
+}
+
+// The most that any sender asks for.
+pub fn slots_over(plan: Plan, queue: usize, ticks: u64) -> u64
+    requires { ⌜ Usable plan queue × (ticks ≤ longestHyperperiod) ⌝ }
+    ensures { λ r. ⌜ r ≡ slotsOver (queueAt plan queue) ticks ⌝ }
+{
+    let receiver = plan.receiver[queue];
+    let chart = plan.period[receiver];
+    let wanted = wanted_for(plan.deadline[receiver]);
+    let mut greatest: u64 = 0;
+    for i in 0..plan.tasks {
+        let row = share(
+            &plan.sends,
+            &plan.period,
+            &plan.deadline,
+            plan.tasks,
+            queue,
+            chart,
+            wanted,
+            i,
+            ticks,
+        );
+        greatest = larger(greatest, row);
+    }
+    greatest
+}
