@@ -8,7 +8,7 @@ use mathlib.Core.List.{List, []}
 use mathlib.Core.Logic.{_⊎_, inl, inr}
 use mathlib.Core.Path.{_≡_, refl, sym, ap, _∙_}
 use lib.ListN.{length, length-take, length-drop}
-use borrow.Author.Tests.{lt-ltb, le-ltb, not-false}
+use borrow.Author.Tests.{lt-ltb, not-false}
 use Rattle.calendar.specs.declared.Tick.{Tick}
 use Rattle.calendar.specs.declared.Number.{Number}
 use Rattle.calendar.specs.declared.Slot.{Slot}
@@ -29,12 +29,11 @@ use Rattle.mailbox.specs.declared.Starting.{Starting}
 use Rattle.mailbox.specs.declared.Sending.{Sending}
 use Rattle.mailbox.specs.declared.Received.{Received}
 use Rattle.mailbox.specs.declared.Receiving.{Receiving}
-use Rattle.digits.specs.Hex.{isLine, bytesIn}
-use Rattle.frames.specs.Answers.{longestAnswer, messageBytes, refusalBytes, sizesBytes}
+use Rattle.frames.specs.Answers.{longestAnswer, messageBytes, refusalBytes, sizesBytes, badBytes}
 use Rattle.frames.specs.Frames.{frameOf, payloadIn}
 use Rattle.frames.specs.Writing.{Written}
 use Rattle.frames.specs.declared.frame.Frame.{Frame}
-use Rattle.console.specs.Desk.{silent, says, bad, newDesk, rowTurn, planned, withRun, startTurn, goTurn, planTurn, withState, sentBytes, sendTurn, filler, receivedBytes, receiveTurn, frameTurn, bytesTurn, lineTurn, stepOf, Takes}
+use Rattle.console.specs.Desk.{silent, says, bad, newDesk, rowTurn, planned, withRun, startTurn, goTurn, planTurn, withState, sentBytes, sendTurn, filler, receivedBytes, receiveTurn, frameTurn, bytesTurn, stepOf, Takes}
 use Rattle.console.specs.declared.Desk.{Desk}
 use Rattle.console.specs.declared.Stepped.{Stepped}
 
@@ -183,16 +182,19 @@ pub by-frame : (d : Desk) (m bytes : List ℕ) {g : Frame} (f : Frame) → g ≡
 unfolding bytesTurn
 by-frame d m bytes f e h = ap (frameTurn d m (payloadIn bytes)) (sym e ∙ h)
 
-module _ (d : Desk) (m line out : List ℕ) where
-  pub step-short : length out < longestAnswer → stepOf d m line out ≡ silent d m
-  unfolding stepOf
-  step-short h = when-true _ _ (lt-ltb (length out) longestAnswer h)
+pub bad-taken : (d : Desk) (m bytes out after : List ℕ) (n : ℕ) {g : Frame} → g ≡ frameOf bytes → g ≡ Frame.Bad → Written badBytes out n after →
+    Takes (bytesTurn d m bytes) out (record { desk = d; written = n }) m after
+bad-taken d m bytes out after n e h w = rw (by-frame d m bytes Frame.Bad e h) (written d m badBytes out after n w)
 
-  module _ (room : longestAnswer ≤ length out) where
-    pub step-line : isLine line ≡ true → stepOf d m line out ≡ bytesTurn d m (bytesIn line)
-    unfolding stepOf lineTurn
-    step-line h = when-false _ _ (le-ltb (length out) longestAnswer room) ∙ when-true _ _ h
+pub send-framed : (d : Desk) (m bytes out : List ℕ) {g : Frame} {q i : ℕ} {t : Tick} {payload : List ℕ} {r : Stepped} {memory after : List ℕ} →
+    g ≡ frameOf bytes → g ≡ Frame.Send q i t → payload ≡ payloadIn bytes → Takes (sendTurn d m q i t payload) out r memory after →
+    Takes (bytesTurn d m bytes) out r memory after
+send-framed d m bytes out {q = q} {i = i} {t = t} e h p x = rw (by-frame d m bytes (Frame.Send q i t) e h, ← p) x
 
-    pub step-no-line : isLine line ≡ false → stepOf d m line out ≡ bad d m
-    unfolding stepOf lineTurn
-    step-no-line h = when-false _ _ (le-ltb (length out) longestAnswer room) ∙ when-false _ _ h
+pub receive-framed : (d : Desk) (m bytes out : List ℕ) {g : Frame} {q : ℕ} {t : Tick} {r : Stepped} {memory after : List ℕ} →
+    g ≡ frameOf bytes → g ≡ Frame.Receive q t → Takes (receiveTurn d m q t) out r memory after → Takes (bytesTurn d m bytes) out r memory after
+receive-framed d m bytes out {q = q} {t = t} e h x = rw (by-frame d m bytes (Frame.Receive q t) e h) x
+
+pub step-short : (d : Desk) (m line out : List ℕ) → length out < longestAnswer → stepOf d m line out ≡ silent d m
+unfolding stepOf
+step-short d m line out h = when-true _ _ (lt-ltb (length out) longestAnswer h)

@@ -3,6 +3,7 @@
 mod squares; // squares.rt: which task sends into which queue, from the sender masks
 mod table; // table.rt: frames 01 to 03, until a plan is accepted
 mod run; // run.rt: frames 04 and 05, from then on
+pub mod calls; // calls.rt: the same for a caller that keeps the desk where it lies
 
 use digits::hex::BYTES;
 use digits::hex::Decoded;
@@ -21,9 +22,11 @@ use table::go;
 ghost use mathlib.Core.Path.{_≡_};
 ghost use mathlib.Core.List.{List};
 ghost use Prim.Native.Nat.{ℕ, _≤_};
-ghost use lib.ListN.{length};
+ghost use lib.ListN.{length, take};
+ghost use Rattle.digits.specs.Hex.{mostBytes};
 ghost use Rattle.frames.specs.Answers.{longestAnswer};
 ghost use Rattle.console.specs.Desk.{newDesk, bad, bytesTurn, stepOf, Takes};
+ghost use Rattle.console.specs.Framing.{framedBytes};
 
 pub struct Desk {
     // the rows of the table so far
@@ -80,7 +83,19 @@ fn refuse_line(desk: Desk, out: &mut [u8]) -> Stepped
     }
 }
 
-fn act(desk: Desk, memory: &mut [u8], bytes: &[u8], out: &mut [u8]) -> Stepped
+// The bytes of a line at the buffer's start, and how many they are: none where the line is no frame, as no bytes are none.
+pub fn bytes_in(line: &[u8], bytes: &mut [u8]) -> usize
+    requires { ⌜ mostBytes ≤ length (now bytes) ⌝ }
+    ensures { λ r. ⌜ (r ≤ mostBytes) × (take r (now (bytes .exit)) ≡ framedBytes (now (line .entry))) ⌝ }
+{
+    let decoded = decode(line, bytes);
+    if let Decoded::Bytes(n) = decoded {
+        return n;
+    }
+    0
+}
+
+pub fn act(desk: Desk, memory: &mut [u8], bytes: &[u8], out: &mut [u8]) -> Stepped
     requires { ⌜ longestAnswer ≤ length (now out) ⌝ }
     ensures { λ r. ⌜ Takes (bytesTurn desk (now (memory .entry)) (now (bytes .entry))) (now (out .entry)) r (now (memory .exit)) (now (out .exit)) ⌝ }
 {
@@ -102,9 +117,6 @@ pub fn step(desk: Desk, memory: &mut [u8], line: &[u8], out: &mut [u8]) -> Stepp
         return Stepped { desk, written: 0 };
     }
     let mut bytes = [0; BYTES];
-    let decoded = decode(line, &mut bytes);
-    let Decoded::Bytes(n) = decoded else {
-        return refuse_line(desk, out);
-    };
+    let n = bytes_in(line, &mut bytes);
     act(desk, memory, &bytes[..n], out)
 }

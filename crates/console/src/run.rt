@@ -27,7 +27,7 @@ fn with_state(mut desk: Desk, state: State) -> Desk
     desk
 }
 
-fn write_sent(out: &mut [u8], answer: Sent) -> usize
+pub fn write_sent(out: &mut [u8], answer: Sent) -> usize
     requires { ⌜ longestAnswer ≤ length (now out) ⌝ }
     ensures { λ r. ⌜ Written (sentBytes answer) (now (out .entry)) r (now (out .exit)) ⌝ }
 {
@@ -64,7 +64,7 @@ pub fn send(
     }
 }
 
-fn write_received(out: &mut [u8], memory: &[u8], answer: Received) -> usize
+pub fn write_received(out: &mut [u8], memory: &[u8], answer: Received) -> usize
     requires { ⌜ longestAnswer ≤ length (now out) ⌝ }
     ensures { λ r. ⌜ Written (receivedBytes (now (memory .entry)) answer) (now (out .entry)) r (now (out .exit)) ⌝ }
 {

@@ -11,7 +11,9 @@ use borrow.Rule.Slice.PartMut.{midOf, putMid}
 use Rattle.common.specs.Stores.{part, sets-append}
 use Rattle.console.specs.declared.Desk.{Desk}
 use Rattle.console.specs.declared.Stepped.{Stepped}
-use Rattle.console.specs.Desk.{lineTurn, stepOf, Takes}
+use Rattle.console.specs.Desk.{lineTurn, bytesTurn, Takes}
+use Rattle.console.specs.Framing.{framedBytes, line-framed}
+use Rattle.console.specs.Kept.{Kept, line-keeps}
 use Rattle.lines.specs.Lines.{kept, cut}
 use Rattle.lines.specs.Whole.{cut-short}
 use Rattle.lines.specs.Ends.{run, endOf, run-le}
@@ -20,7 +22,7 @@ use Rattle.feed.specs.Answers.{World, next, reply}
 use Rattle.feed.specs.Feed.{enough, Feeding, onward, feedOf}
 use Rattle.feed.specs.Laws.{lineFed, onward-onward, going-line, going-tail}
 use Rattle.console.specs.Fits.{answer-fits}
-use Rattle.feed.specs.Step.{step-takes, room-of, put-sets}
+use Rattle.feed.specs.Step.{put-sets}
 use Rattle.feed.specs.Outcome.{worldOf, Outcome}
 
 -- ## Answers in the output buffer
@@ -57,16 +59,26 @@ pub record Underway (f : Feeding) (piece : List ℕ) (from : ℕ) (held₀ out�
   pub held-fits : kept ≤ length held
   pub held-size : length held ≡ length held₀
   pub stored : Stored out₀ out w
+  pub sound : Kept d
   pub left : f ≡ onward (at - from) (take w out) (feedOf (worldOf d memory) (take u held) (drop at piece) (length out - w))
 
 pub underway-first :
-    (piece : List ℕ) (from : ℕ) (memory held out : List ℕ) (d : Desk) (u : ℕ) → from ≤ length piece → u ≤ kept → kept ≤ length held →
+    (piece : List ℕ) (from : ℕ) (memory held out : List ℕ) (d : Desk) (u : ℕ) → from ≤ length piece → u ≤ kept → kept ≤ length held → Kept d →
     Underway (feedOf (worldOf d memory) (take u held) (drop from piece) (length out)) piece from held out memory held out d u from 0
-underway-first piece from memory held out d u a b h =
+underway-first piece from memory held out d u a b h k =
     let e : from - from ≡ 0 = omega arith in
     let g : length out - 0 ≡ length out = omega arith in
     let z = feedOf (worldOf d memory) (take u held) (drop from piece) (length out) in
-    record { past = omega arith; inside = a; used-fits = b; held-fits = h; held-size = refl; stored = stored-none out; left = rw (e, g, zero-add (z .taken)) }
+    record {
+      past = omega arith;
+      inside = a;
+      used-fits = b;
+      held-fits = h;
+      held-size = refl;
+      stored = stored-none out;
+      sound = k;
+      left = rw (e, g, zero-add (z .taken));
+    }
 
 -- with room and a line end, feeding goes on with the line
 going-on :
@@ -156,6 +168,7 @@ module _ {f : Feeding} {piece : List ℕ} {from : ℕ} {held₀ out₀ memory he
         held-fits = omega (arith, t .held-fits);
         held-size = k ∙ t .held-size;
         stored = stored-more xs (t .stored) fits;
+        sound = line-keeps d memory line (t .sound);
         left =
             t .left ∙ ap (onward (at - from) (take w out)) g ∙ onward-onward (at - from) (suc (run p)) (take w out) xs _
             ∙ same-feeding (next (worldOf d memory) line) (omega (arith, t .past)) (sym (stored-take out xs w fits))
@@ -163,11 +176,11 @@ module _ {f : Feeding} {piece : List ℕ} {from : ℕ} {held₀ out₀ memory he
             (omega (arith, length-sets out w xs));
       }
 
-  -- as the code makes the step: on the line where it stands, with the rest of the output buffer
-  module _ (line held′ memory′ after : List ℕ) (r : Stepped) (room : enough ≤ length out - w)
-      (step : Takes (stepOf d memory line (midOf w (length out - w) out)) (midOf w (length out - w) out) r memory′ after) where
+  -- as the code takes the turn: on the line's bytes, with the rest of the output buffer
+  module _ (line bytes held′ memory′ after : List ℕ) (r : Stepped) (room : enough ≤ length out - w) (framed : bytes ≡ framedBytes line)
+      (turn : Takes (bytesTurn d memory bytes) (midOf w (length out - w) out) r memory′ after) where
     takes : Takes (lineTurn d memory line) (midOf w (length out - w) out) r memory′ after
-    takes = step-takes d memory line (midOf w (length out - w) out) (omega (arith, room-of out w)) step
+    takes = rw (line-framed d memory line, ← framed) turn
 
     pub written-little : r .written ≤ enough
     written-little = omega (arith, answer-fits d memory line, ap (λ (x : Stepped). x .written) (takes .0))

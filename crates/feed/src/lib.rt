@@ -1,12 +1,34 @@
 // Blocks of input to answers: the lines that end in a block are answered one after another, until the block is used up or the room for
 // answers is short. A line that has not ended goes on in the next block: its start is the carry, the first `used` bytes of `held`. What
 // `held` has behind the carry means nothing.
+//
+// A desk is 2 KB, and by value it is copied at each call: the loop keeps it, and lends and stores what frames 04 and 05 need of it.
 use console::Desk;
 use console::Stepped;
-ghost use Prim.Native.Nat.{_≤_};
+use console::act;
+use console::bytes_in;
+use console::calls::Spot;
+use console::calls::receive_line;
+use console::calls::send_line;
+use digits::hex::BYTES;
+use frames::answers::write_bad;
+use frames::frame::Frame;
+use frames::frame::frame_of;
+use frames::frame::payload_in;
+use mailbox::receive::reading_of;
+use mailbox::send::last_sent;
+use plan::Plan;
+ghost use mathlib.Core.Path.{_≡_};
+ghost use mathlib.Core.List.{_++_};
+ghost use Prim.Native.Nat.{_-_, _≤_, _<_};
 ghost use lib.ListN.{length, take};
+ghost use Rattle.common.specs.Stores.{part};
+ghost use Rattle.digits.specs.Hex.{mostBytes};
+ghost use Rattle.console.specs.Calls.{putEntry, putPlace};
 ghost use Rattle.console.specs.Desk.{Takes};
-ghost use Rattle.lines.specs.Lines.{kept};
+ghost use Rattle.console.specs.Framing.{framedBytes};
+ghost use Rattle.console.specs.Kept.{Kept};
+ghost use Rattle.lines.specs.Lines.{kept, cut};
 ghost use Rattle.feed.specs.Feed.{enough};
 ghost use Rattle.feed.specs.Last.{lastTurn};
 ghost use Rattle.feed.specs.Outcome.{worldOf, fedFrom, Outcome};
@@ -21,6 +43,70 @@ pub struct Fed {
     pub written: usize,
 }
 
+// What a call comes to so far.
+fn so_far(desk: Desk, used: usize, next: usize, written: usize) -> Fed
+    ensures { λ r. ⌜ r ≡ record { desk = desk; used = used; next = next; written = written } ⌝ }
+{
+    Fed {
+        desk,
+        used,
+        next,
+        written,
+    }
+}
+
+// The bytes of the line that goes on at a place and ends before `end`, and how many they are.
+fn bytes_until(
+    held: &mut [u8],
+    used: usize,
+    piece: &[u8],
+    at: usize,
+    end: usize,
+    bytes: &mut [u8],
+) -> usize
+    requires { ⌜ (used ≤ kept) × (kept ≤ length (now held)) × (at ≤ end) × (end ≤ length (now piece)) × (mostBytes ≤ length (now bytes)) ⌝ }
+    ensures { λ r. ⌜ (r ≤ mostBytes)
+        × (take r (now (bytes .exit)) ≡ framedBytes (cut (take used (now (held .entry)) ++ part (now (piece .entry)) at (end - at)))) ⌝ }
+{
+    let n = lines::join(held, used, piece, at, end);
+    let line = lines::line_of(held, n, piece, at, end);
+    bytes_in(line, bytes)
+}
+
+// What a send or a receive looks at in the desk.
+fn spot_of(running: bool, tick: u64, entry: u64) -> Spot
+    ensures { λ r. ⌜ r ≡ record { running = running; tick = tick; entry = entry } ⌝ }
+{
+    Spot {
+        running,
+        tick,
+        entry,
+    }
+}
+
+// Stores the entry of a queue and a task, where there is one.
+fn put_entry(sent: &mut [u64; Plan::CELLS], queue: usize, task: usize, entry: u64)
+    ensures { λ _. ⌜ now (sent .exit) ≡ putEntry (now (sent .entry)) queue task entry ⌝ }
+{
+    if Plan::QUEUES <= queue {
+        return;
+    }
+    if Plan::TASKS <= task {
+        return;
+    }
+    sent[queue * Plan::TASKS + task] = entry;
+}
+
+// Stores the reading place of a queue, where there is one.
+fn put_place(reading: &mut [u64; Plan::QUEUES], queue: usize, place: u64)
+    ensures { λ _. ⌜ now (reading .exit) ≡ putPlace (now (reading .entry)) queue place ⌝ }
+{
+    if Plan::QUEUES <= queue {
+        return;
+    }
+    reading[queue] = place;
+}
+
 pub fn feed(
     desk: Desk,
     memory: &mut [u8],
@@ -30,10 +116,11 @@ pub fn feed(
     from: usize,
     out: &mut [u8],
 ) -> Fed
-    requires { ⌜ (used ≤ kept) × (kept ≤ length (now held)) × (from ≤ length (now piece)) ⌝ }
+    requires { ⌜ (used ≤ kept) × (kept ≤ length (now held)) × (from ≤ length (now piece)) × Kept desk ⌝ }
     ensures { λ r. ⌜ Outcome
         (fedFrom (worldOf desk (now (memory .entry))) (now (held .entry)) used (now (piece .entry)) from (now (out .entry)))
         (now (piece .entry)) from (now (held .entry)) (now (out .entry)) r (now (memory .exit)) (now (held .exit)) (now (out .exit)) ⌝ }
+    ensures { λ r. ⌜ Kept (r .desk) ⌝ }
 {
     let mut d = desk;
     let mut u = used;
@@ -43,27 +130,44 @@ pub fn feed(
         let e = lines::end_of(piece, at);
         if piece.len() <= e {
             let n = lines::keep(held, u, &piece[at..]);
-            return Fed {
-                desk: d,
-                used: n,
-                next: e,
-                written: w,
-            };
+            return so_far(d, n, e, w);
         }
-        let n = lines::join(held, u, piece, at, e);
-        let line = lines::line_of(held, n, piece, at, e);
-        let s = console::step(d, memory, line, &mut out[w..]);
-        d = s.desk;
-        w += s.written;
+        let mut bytes = [0; BYTES];
+        let n = bytes_until(held, u, piece, at, e, &mut bytes);
+        let frame = frame_of(&bytes[..n]);
         u = 0;
         at = e + 1;
+        match frame {
+            Frame::Bad => {
+                w += write_bad(&mut out[w..]);
+            }
+            Frame::Send(queue, task, t) => {
+                let plan = d.plan;
+                let entry = last_sent(&d.state.sent, queue, task);
+                let spot = spot_of(d.running, d.state.tick.0, entry);
+                let payload = payload_in(&bytes[..n]);
+                let s = send_line(plan, spot, memory, queue, task, t, payload, &mut out[w..]);
+                d.state.tick.0 = s.tick;
+                put_entry(&mut d.state.sent, queue, task, s.entry);
+                w += s.written;
+            }
+            Frame::Receive(queue, t) => {
+                let plan = d.plan;
+                let place = reading_of(&d.state.reading, queue);
+                let spot = spot_of(d.running, d.state.tick.0, place);
+                let s = receive_line(plan, spot, memory, queue, t, &mut out[w..]);
+                d.state.tick.0 = s.tick;
+                put_place(&mut d.state.reading, queue, s.entry);
+                w += s.written;
+            }
+            _ => {
+                let s = act(d, memory, &bytes[..n], &mut out[w..]);
+                d = s.desk;
+                w += s.written;
+            }
+        }
     }
-    Fed {
-        desk: d,
-        used: u,
-        next: at,
-        written: w,
-    }
+    so_far(d, u, at, w)
 }
 
 // The end of the input: a last line without its end is answered.

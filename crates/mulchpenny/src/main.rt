@@ -7,6 +7,7 @@ use libc::STDOUT_FILENO;
 use plan::Plan;
 ghost use Prim.Native.Nat.{_≤_};
 ghost use lib.ListN.{length};
+ghost use Rattle.console.specs.Kept.{Kept};
 ghost use Rattle.feed.specs.Feed.{enough};
 ghost use Rattle.lines.specs.Lines.{kept};
 
@@ -28,8 +29,8 @@ fn answer_block(
     piece: &[u8],
     out: &mut [u8],
 ) -> Turn
-    requires { ⌜ (used ≤ kept) × (kept ≤ length (now held)) × (enough ≤ length (now out)) ⌝ }
-    ensures { λ r. ⌜ r .used ≤ kept ⌝ }
+    requires { ⌜ (used ≤ kept) × (kept ≤ length (now held)) × (enough ≤ length (now out)) × Kept desk ⌝ }
+    ensures { λ r. ⌜ (r .used ≤ kept) × Kept (r .desk) ⌝ }
 {
     let mut d = desk;
     let mut u = used;

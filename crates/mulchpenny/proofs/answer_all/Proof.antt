@@ -1,18 +1,22 @@
 use borrow.Author.Needs.{needs}
 use native.Mathlib.Omega.{arith}
-use mathlib.Core.Path.{_≡_}
+use mathlib.Core.Path.{_≡_, refl}
 use Prim.Native.Nat.{_≤_}
 use lib.ListN.{length, length-take}
+use Rattle.console.specs.Kept.{Kept, kept-new}
 use Rattle.lines.specs.Lines.{kept}
 use Rattle.mulchpenny.proofs.answer_all.Statement.{statement}
 use Rattle.mulchpenny.proofs.answer_all.Tie as tie
 
 abbrev Inv-loop : tie.InvT-loop
 Inv-loop memory₀ held₀ piece₀ out₀ d₀ u₀ turns₀ memory held piece out d u turns =
-    (u ≤ kept) × (length memory ≡ length memory₀) × (length held ≡ length held₀) × (length piece ≡ length piece₀) × (length out ≡ length out₀)
+    (u ≤ kept) × (length memory ≡ length memory₀) × (length held ≡ length held₀) × (length piece ≡ length piece₀) × (length out ≡ length out₀) × Kept d
 
 abbrev μ-loop : tie.MeasureT-loop
 μ-loop memory₀ held₀ piece₀ out₀ d₀ u₀ turns₀ memory held piece out d u turns = turns
+
+loop-holds : tie.Need-loop-holds Inv-loop μ-loop
+loop-holds c = (omega arith, refl, refl, refl, refl, rw (c .new .ensures) kept-new)
 
 slice-aggregate-answer-block : tie.Need-slice-aggregate-answer-block Inv-loop μ-loop
 slice-aggregate-answer-block c = simp length-take (omega arith)
@@ -36,7 +40,8 @@ loop-again c =
     let o = c .before .before .before .before .out2 .given in
     let p = c .before .before .before .before .before .before .before .before .before .before .before .before .before .before .before .before .piece .given in
     let i = c .before .before .before .before .before .before .before .before .before .before .before .before .before .before .before .before .before .before .before .before .loop .inv in
-    search needs
+    let b = c .before .before .before .before .before .before .before .before .before .answer-block .ensures in
+    (b .0, search needs, search needs, search needs, search needs, b .1)
 
 pub answer-all-spec : {M : Type 1} → statement M
 answer-all-spec =
@@ -45,7 +50,7 @@ answer-all-spec =
     Inv-loop
     μ-loop
     (λ c κs. search needs)
-    (λ c. search needs)
+    loop-holds
     (λ c κs. search needs)
     (λ c κs. search needs)
     (λ c. search needs)

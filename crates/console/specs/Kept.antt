@@ -1,0 +1,81 @@
+-- What every turn keeps of a desk: the plan that it runs is sound, so that a call on it need not test rule 7 again.
+use Prim.Native.Nat.{ℕ}
+use native.Mathlib.Omega.{arith}
+use mathlib.Core.Bool.{Bool, true, false, cond}
+use mathlib.Core.List.{List}
+use mathlib.Core.Path.{_≡_, refl}
+use lib.Dec.{leb, ltb}
+use lib.ListN.{length}
+use Rattle.plan.specs.Limits.{taskLimit, queueLimit}
+use Rattle.plan.specs.Rules.{soundPlan}
+use Rattle.plan.specs.declared.Plan.{Plan}
+use Rattle.planning.specs.Accepted.{accepted-made}
+use Rattle.planning.specs.declared.Answer.{Answer}
+use Rattle.mailbox.specs.Calls.{startAnswer}
+use Rattle.mailbox.specs.declared.State.{State}
+use Rattle.mailbox.specs.declared.Started.{Started}
+use Rattle.digits.specs.Hex.{isLine, bytesIn}
+use Rattle.frames.specs.Answers.{longestAnswer}
+use Rattle.frames.specs.Frames.{frameOf, payloadIn}
+use Rattle.frames.specs.declared.frame.Frame.{Frame}
+use Rattle.console.specs.Desk.{Turn, silent, bad, newDesk, rowTurn, withTask, withQueue, squareOf, planned, withRun, startTurn, planTurn, goTurn, withState, sendTurn, receiveTurn, frameTurn, bytesTurn, lineTurn, stepOf}
+use Rattle.console.specs.declared.Desk.{Desk}
+
+pub record Kept (d : Desk) : Type 0 where
+  pub sound : d .running ≡ true → soundPlan (d .plan) ≡ true
+
+pub kept-new : Kept newDesk
+kept-new = record { sound = λ e. absurd (let z : _≡_ {A = ℕ} 0 1 = cc in omega arith) }
+
+kept-run : (d : Desk) (p : Plan) (s : State) → soundPlan p ≡ true → Kept (withRun d p s)
+unfolding withRun
+kept-run d p s h = record { sound = λ e. h }
+
+kept-state : (d : Desk) (s : State) → Kept d → Kept (withState d s)
+unfolding withState
+kept-state d s k = record { sound = k .sound }
+
+-- ## A turn
+
+abbrev Keeps : Turn → Type 0
+Keeps t = Kept (t .desk)
+
+keeps-if : (b : Bool) (s t : Turn) → Keeps s → Keeps t → Keeps (cond b s t)
+keeps-if true s t g h = g
+keeps-if false s t g h = h
+
+keeps-row : (d : Desk) (m : List ℕ) (full : Bool) (more : Desk) → Kept d → Kept more → Keeps (rowTurn d m full more)
+unfolding rowTurn
+keeps-row d m full more k h =
+    keeps-if (d .running) (bad d m) (cond full (bad d m) (silent more m)) k (keeps-if full (bad d m) (silent more m) k h)
+
+keeps-start : (d : Desk) (p : Plan) (m : List ℕ) (s : Started) → soundPlan p ≡ true → Keeps (startTurn d p m s)
+keeps-start d p m Started.Ready h = kept-run d p _ h
+keeps-start d p m (Started.Refused r) h = kept-new
+
+keeps-plan : (d : Desk) (p : Plan) (m : List ℕ) (a : Answer) → (a ≡ Answer.Accepted → soundPlan p ≡ true) → Keeps (planTurn d p m a)
+keeps-plan d p m Answer.Accepted h = keeps-start d p m (startAnswer p m) (h refl)
+keeps-plan d p m (Answer.Refused r) h = kept-new
+
+-- an accepted planning makes a sound plan
+planned-sound : (d : Desk) → planned d .answer ≡ Answer.Accepted → soundPlan (planned d .plan) ≡ true
+unfolding planned
+planned-sound d e = accepted-made (d .tasks) (d .queues) (d .period) (d .deadline) (d .receiver) (squareOf (d .senders)) e .sound
+
+keeps-frame : (d : Desk) (m payload : List ℕ) (f : Frame) → Kept d → Keeps (frameTurn d m payload f)
+unfolding withTask withQueue goTurn sendTurn receiveTurn
+keeps-frame d m payload (Frame.Task period deadline) k = keeps-row d m (leb taskLimit (d .tasks)) (withTask d period deadline) k (record { sound = k .sound })
+keeps-frame d m payload (Frame.Queue receiver mask) k = keeps-row d m (leb queueLimit (d .queues)) (withQueue d receiver mask) k (record { sound = k .sound })
+keeps-frame d m payload Frame.Go k = keeps-if (d .running) (bad d m) _ k (keeps-plan d (planned d .plan) m (planned d .answer) (planned-sound d))
+keeps-frame d m payload (Frame.Send q i t) k = keeps-if (d .running) _ (bad d m) (kept-state d _ k) k
+keeps-frame d m payload (Frame.Receive q t) k = keeps-if (d .running) _ (bad d m) (kept-state d _ k) k
+keeps-frame d m payload Frame.Bad k = k
+
+pub line-keeps : (d : Desk) (m line : List ℕ) → Kept d → Kept (lineTurn d m line .desk)
+unfolding lineTurn bytesTurn
+line-keeps d m line k =
+    keeps-if (isLine line) (bytesTurn d m (bytesIn line)) (bad d m) (keeps-frame d m (payloadIn (bytesIn line)) (frameOf (bytesIn line)) k) k
+
+pub step-keeps : (d : Desk) (m line out : List ℕ) → Kept d → Kept (stepOf d m line out .desk)
+unfolding stepOf
+step-keeps d m line out k = keeps-if (ltb (length out) longestAnswer) (silent d m) (lineTurn d m line) k (line-keeps d m line k)
