@@ -3,7 +3,7 @@
 // All functions are inner ones: they require what the crates above have tested.
 ghost use mathlib.Core.Path.{_≡_};
 ghost use Prim.Native.Nat.{_<_, _≤_, _^_, _/_};
-ghost use Rattle.model.specs.Model.{count, hasDeadline, released, due, gcd, lcm};
+ghost use Rattle.model.specs.Model.{Queue, receiverDeadline, wantedFor, count, hasDeadline, released, due, gcd, lcm};
 ghost use Rattle.calendar.specs.Calendar.{tick, job, capped};
 
 // A moment, counted from tick 0.
@@ -64,6 +64,13 @@ pub fn has_deadline(period: u64, deadline: u64, at: Tick) -> bool
     } else {
         (at.0 - deadline) % period == 0
     }
+}
+
+// For how many ticks after one of its releases a receiver with this deadline wants the messages that it is given then.
+pub fn wanted_for(deadline: u64) -> u64
+    ensures { λ r. ⌜ ((q : Queue) → receiverDeadline q ≡ deadline → r ≡ wantedFor q) ⌝ }
+{
+    deadline
 }
 
 // The greatest common divisor by Euclid's rule: the second number falls.

@@ -5,7 +5,7 @@ use native.Mathlib.Omega.{arith}
 use native.Mathlib.Nat.{mul-div-cancel}
 use mathlib.Core.Bool.{Bool, true, false}
 use mathlib.Core.Logic.{⊎-elim}
-use mathlib.Core.Path.{_≡_, sym, _∙_}
+use mathlib.Core.Path.{_≡_}
 use Rattle.common.specs.Tests.{true-or-false, having}
 use Rattle.common.specs.Totals.{only, only-zero}
 use Rattle.model.specs.Model.{count, hasDeadline}

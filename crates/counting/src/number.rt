@@ -4,7 +4,7 @@ use calendar::Tick;
 use plan::Plan;
 ghost use mathlib.Core.Path.{_≡_};
 ghost use mathlib.Core.Bool.{_&&_};
-ghost use Prim.Native.Nat.{ℕ, _+_, _≤_};
+ghost use Prim.Native.Nat.{_+_, _≤_};
 ghost use Rattle.common.specs.Totals.{only};
 ghost use Rattle.model.specs.Model.{Queue, count, hasDeadline, precedes};
 ghost use Rattle.plan.specs.Limits.{lastTick};

@@ -20,7 +20,7 @@ use mailbox::send::last_sent;
 use plan::Plan;
 ghost use mathlib.Core.Path.{_≡_};
 ghost use mathlib.Core.List.{_++_};
-ghost use Prim.Native.Nat.{_-_, _≤_, _<_};
+ghost use Prim.Native.Nat.{_-_, _≤_};
 ghost use lib.ListN.{length, take};
 ghost use Rattle.common.specs.Stores.{part};
 ghost use Rattle.digits.specs.Hex.{mostBytes};
@@ -138,24 +138,20 @@ pub fn feed(
         u = 0;
         at = e + 1;
         match frame {
-            Frame::Bad => {
-                w += write_bad(&mut out[w..]);
-            }
+            Frame::Bad => w += write_bad(&mut out[w..]),
             Frame::Send(queue, task, t) => {
-                let plan = d.plan;
                 let entry = last_sent(&d.state.sent, queue, task);
                 let spot = spot_of(d.running, d.state.tick.0, entry);
                 let payload = payload_in(&bytes[..n]);
-                let s = send_line(plan, spot, memory, queue, task, t, payload, &mut out[w..]);
+                let s = send_line(d.plan, spot, memory, queue, task, t, payload, &mut out[w..]);
                 d.state.tick.0 = s.tick;
                 put_entry(&mut d.state.sent, queue, task, s.entry);
                 w += s.written;
             }
             Frame::Receive(queue, t) => {
-                let plan = d.plan;
                 let place = reading_of(&d.state.reading, queue);
                 let spot = spot_of(d.running, d.state.tick.0, place);
-                let s = receive_line(plan, spot, memory, queue, t, &mut out[w..]);
+                let s = receive_line(d.plan, spot, memory, queue, t, &mut out[w..]);
                 d.state.tick.0 = s.tick;
                 put_place(&mut d.state.reading, queue, s.entry);
                 w += s.written;

@@ -12,7 +12,7 @@ use lib.Seq.{getD-set-same, getD-set-other}
 use borrow.Author.Tests.{ne-eqb}
 use Rattle.common.specs.Tests.{lt-or-le, having}
 use Rattle.calendar.specs.Calendar.{message}
-use Rattle.model.specs.Model.{Queue, Valid, Sender, receiverPeriod, releaseOf, deadlineOf, number, first, last, jobFor, wantedFor, wantedUntil, outdatedAt, senderOf, hyperperiod}
+use Rattle.model.specs.Model.{Queue, Valid, Sender, receiverPeriod, releaseOf, deadlineOf, number, first, last, jobFor, wantedUntil, outdatedAt, senderOf, hyperperiod}
 use Rattle.model.specs.Order.{period-pos}
 use Rattle.model.specs.Number.{number-iff, number-below, number-less}
 use Rattle.model.specs.Outdating.{wanted-pos, wanted-fits, job-from}

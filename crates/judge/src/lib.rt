@@ -4,7 +4,7 @@
 use calendar::Tick;
 use calendar::deadline_of;
 use calendar::job_at;
-use numbering::receiver::wanted_for;
+use calendar::wanted_for;
 use plan::Plan;
 use plan::refusal::Refusal;
 use plan::refusal::Rule;

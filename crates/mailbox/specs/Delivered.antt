@@ -7,7 +7,7 @@ use mathlib.Core.List.{List}
 use mathlib.Core.Path.{_≡_, refl, sym, ap, _∙_}
 use lib.ListN.{length}
 use borrow.Author.Tests.{lt-ltb, le-ltb, lt-leb, le-leb, eq-eqb}
-use Rattle.model.specs.Model.{receiverPeriod, number, last, wantedUntil}
+use Rattle.model.specs.Model.{receiverPeriod, last, wantedUntil}
 use Rattle.model.specs.Number.{number-below}
 use Rattle.model.specs.Window.{last-iff}
 use Rattle.calendar.specs.Calendar.{message, slot}

@@ -1,9 +1,9 @@
-// The mailbox: the running calls start, send and receive, over a plan, a state and slots in lent memory, and the view of an answer's bytes.
-// Each call tests what it is handed and answers; a refused call gives back state and memory as they were.
+// The mailbox: the running calls start, send and receive, over a plan, a state and slots in lent memory. Each call tests what it is handed
+// and answers; a refused call gives back state and memory as they were. What a look at an answer's bytes shows is defined in
+// specs/View.antt, and shown by the crate `view`.
 pub mod start; // start.rt: the fresh state, and start
 pub mod send; // send.rt: send
 pub mod receive; // receive.rt: receive, a look and a step on
-pub mod view; // view.rt: the bytes that a receive answer is about
 
 use calendar::Number;
 use calendar::Slot;

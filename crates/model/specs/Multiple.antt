@@ -1,7 +1,7 @@
 -- The least common multiple of two numbers by the greatest common divisor, and of a queue's periods: its hyperperiod.
 use mathlib.Core.Path.{_≡_, refl, sym, ap, _∙_}
 use mathlib.Core.Bool.{Bool, true, false, cond}
-use mathlib.Core.Logic.{_⊎_, ⊎-elim}
+use mathlib.Core.Logic.{⊎-elim}
 use Prim.Native.Nat.{ℕ, zero, suc, _+_, _*_, _/_, _≤_, _<_, _∣_}
 use native.Mathlib.Nat.{le-refl, le-trans, one-mul, mul-comm, mul-assoc, le-mul-of-pos-right, le-div-iff-mul-le, le-of-dvd, pos-of-dvd-of-pos, dvd-refl, dvd-trans, dvd-mul-right, dvd-mul-left, mul-div-cancel', div-mul-cancel, mul-dvd-mul-left, dvd-of-mul-dvd-mul-left}
 use native.Mathlib.Numerals.{add-one}

@@ -4,11 +4,11 @@ use Prim.Native.Nat.{ℕ, suc, _+_, _-_, _*_, _<_, _≤_}
 use native.Mathlib.Omega.{arith}
 use native.Mathlib.Decide.{ℕ-discrete}
 use mathlib.Core.Bool.{Bool, true, false}
-use mathlib.Core.Logic.{_⊎_, _↔_, ⊎-elim}
+use mathlib.Core.Logic.{_↔_, ⊎-elim}
 use mathlib.Core.Path.{_≡_, refl, sym, subst, _∙_}
 use lib.Dec.{eqb}
 use Rattle.common.specs.Totals.{only, sum, only-le, only-eq, only-most, only-zero, sum-le, sum-bound, sum-ext, sum-add, sum-one, sum-zero, sum-at, only-self, only-other, crossing}
-use Rattle.model.specs.Model.{Queue, Valid, Sender, count, hasDeadline, deadlineOf, countOf, upTo, dueAt, precedes, followers, number, Before, jobsBefore}
+use Rattle.model.specs.Model.{Queue, Valid, Sender, hasDeadline, deadlineOf, countOf, upTo, dueAt, precedes, followers, number, Before, jobsBefore}
 use Rattle.common.specs.Tests.{lt-or-le, true-or-false, having, clash, and-left, and-right}
 use Rattle.common.specs.Rank.{size, rank, rank-less, rank-onto}
 use Rattle.model.specs.Count.{count-mono, count-before, count-le, count-own, count-tick, has-own, has-job}

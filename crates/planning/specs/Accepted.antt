@@ -1,6 +1,6 @@
 -- What an accepted planning has made: a sound plan, its table as handed in with zeros beyond the counts, the least fit sizes, never
 -- above equation 3, and the places as running sums. What a refused one has made: the plan of all zeros.
-use Prim.Native.Nat.{ℕ, _+_, _<_, _≤_}
+use Prim.Native.Nat.{ℕ, _<_, _≤_}
 use native.Mathlib.Omega.{arith}
 use mathlib.Core.Bool.{Bool, true, false, _&&_}
 use mathlib.Core.List.{List, _++_}

@@ -10,7 +10,7 @@ use lib.Dec.{ltb}
 use lib.ListN.{getD, List·getD-eq-default}
 use Rattle.common.specs.Tests.{lt-or-le}
 use Rattle.common.specs.Totals.{only, sum, only-most, sum-ext}
-use Rattle.common.specs.Table.{table, table-at, table-length}
+use Rattle.common.specs.Table.{table-at, table-length}
 use Rattle.common.specs.Rows.{firstBad-is, firstBad-same}
 use Rattle.plan.specs.Limits.{taskLimit, queueLimit, cellLimit}
 use Rattle.plan.specs.Square.{entry}

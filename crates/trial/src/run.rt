@@ -12,8 +12,8 @@ use mailbox::Receiving;
 use mailbox::Sent;
 use mailbox::Started;
 use mailbox::State;
-use mailbox::view::view;
 use plan::Plan;
+use view::view;
 
 // The longest payload and filler that a line can ask for; a length counts modulo one more.
 const MOST_BYTES: usize = 64;

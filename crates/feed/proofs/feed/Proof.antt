@@ -92,25 +92,25 @@ loop-again c =
 
 send-line-requires : tie.Need-send-line-requires Inv-loop μ-loop
 send-line-requires c κs =
-    let o = c .before .before .before .before in
-    let k = o .before .before .before .before .before .before .before .before in
+    let o = c .before .before .before .before .before in
+    let k = o .before .before .before .before .before .before .before in
     let i = k .before .before .before .before .before .before .before .before .before .before in
     let l = i .before .loop in
     (rw (o .spot-of .ensures) (l .inv .0 .sound .sound), omega (arith, room-of (l .out) (l .w), i .loop-test .taken))
 
 slice-aggregate-payload-in : tie.Need-slice-aggregate-payload-in Inv-loop μ-loop
 slice-aggregate-payload-in c =
-    let k = c .before .before .before .before .before .before .before .before .before in
+    let k = c .before .before .before .before .before .before .before .before in
     simp length-take (omega (arith, k .before .before .before .before .before .bytes-until .ensures .0))
 
 add-w-2 : tie.Need-add-w-2 Inv-loop μ-loop
 add-w-2 c =
     let p = c .before in
     let s = p .before .before .before .before .before .before .before in
-    let y = s .before .before .before in
+    let y = s .before .before .before .before in
     let o = y .before .before in
     let z = o .before in
-    let f = z .before .before .before .before .before in
+    let f = z .before .before .before .before in
     let k = f .before .before in
     let n = k .before .before .before .before .before in
     let x = n .before .before .before in
@@ -124,8 +124,8 @@ add-w-2 c =
 
 loop-less-2 : tie.Need-loop-less-2 Inv-loop μ-loop
 loop-less-2 c =
-    let z = c .before .before .before .before .before .before .before .before .before .before .before .before .before .before in
-    let k = z .before .before .before .before .before .before .before in
+    let z = c .before .before .before .before .before .before .before .before .before .before .before .before .before .before .before in
+    let k = z .before .before .before .before .before .before in
     let x = k .before .before .before .before .before .before .before .before in
     let l = x .before .before .before .loop in
     omega (arith, x .if1 .left, x .before .end-of .ensures, end-past (x .before .before .before .before .before .before .before .before .args .piece .now) (l .at))
@@ -135,10 +135,10 @@ unfolding withState sentState
 loop-again-2 c =
     let p = c .before in
     let s = p .before .before .before .before .before .before .before in
-    let y = s .before .before .before in
+    let y = s .before .before .before .before in
     let o = y .before .before in
     let z = o .before in
-    let f = z .before .before .before .before .before in
+    let f = z .before .before .before .before in
     let k = f .before .before in
     let n = k .before .before .before .before .before in
     let x = n .before .before .before in
@@ -155,8 +155,8 @@ loop-again-2 c =
 
 receive-line-requires : tie.Need-receive-line-requires Inv-loop μ-loop
 receive-line-requires c κs =
-    let o = c .before .before in
-    let k = o .before .before .before .before .before .before .before .before in
+    let o = c .before .before .before in
+    let k = o .before .before .before .before .before .before .before in
     let i = k .before .before .before .before .before .before .before .before .before .before in
     let l = i .before .loop in
     (rw (o .spot-of2 .ensures) (l .inv .0 .sound .sound), omega (arith, room-of (l .out) (l .w), i .loop-test .taken))
@@ -165,9 +165,9 @@ add-w-3 : tie.Need-add-w-3 Inv-loop μ-loop
 add-w-3 c =
     let p = c .before in
     let s = p .before .before .before .before .before in
-    let o = s .before .before .before in
+    let o = s .before .before .before .before in
     let z = o .before in
-    let f = z .before .before .before .before .before in
+    let f = z .before .before .before .before in
     let k = f .before .before in
     let n = k .before .before .before .before .before in
     let x = n .before .before .before in
@@ -181,8 +181,8 @@ add-w-3 c =
 
 loop-less-3 : tie.Need-loop-less-3 Inv-loop μ-loop
 loop-less-3 c =
-    let z = c .before .before .before .before .before .before .before .before .before .before in
-    let k = z .before .before .before .before .before .before .before in
+    let z = c .before .before .before .before .before .before .before .before .before .before .before in
+    let k = z .before .before .before .before .before .before in
     let x = k .before .before .before .before .before .before .before .before in
     let l = x .before .before .before .loop in
     omega (arith, x .if1 .left, x .before .end-of .ensures, end-past (x .before .before .before .before .before .before .before .before .args .piece .now) (l .at))
@@ -192,9 +192,9 @@ unfolding withState readState
 loop-again-3 c =
     let p = c .before in
     let s = p .before .before .before .before .before in
-    let o = s .before .before .before in
+    let o = s .before .before .before .before in
     let z = o .before in
-    let f = z .before .before .before .before .before in
+    let f = z .before .before .before .before in
     let k = f .before .before in
     let n = k .before .before .before .before .before in
     let x = n .before .before .before in

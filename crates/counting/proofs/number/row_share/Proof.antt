@@ -1,6 +1,5 @@
 -- `number::row_share`: a row that does not send has no share.
 use borrow.Author.Needs.{needs}
-use mathlib.Core.Path.{refl}
 use Rattle.counting.proofs.number.row_share.Statement.{statement}
 use Rattle.counting.proofs.number.row_share.Tie as tie
 

@@ -1,5 +1,4 @@
 -- `number::up_to`: the columns lent are the plan's own.
-use borrow.Author.Needs.{needs}
 use mathlib.Core.Path.{_∙_}
 use Rattle.counting.specs.Columns.{lent, upTo-columns}
 use Rattle.numbering.proofs.number.up_to.Statement.{statement}

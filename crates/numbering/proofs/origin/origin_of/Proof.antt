@@ -1,5 +1,4 @@
 -- `origin::origin_of`: the tick and the row that were found are those of the message with the number.
-use borrow.Author.Needs.{needs}
 use Prim.Native.Nat.{ℕ, _<_, _≤_}
 use native.Mathlib.Omega.{arith}
 use mathlib.Core.Bool.{not}

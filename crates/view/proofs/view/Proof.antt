@@ -1,4 +1,4 @@
--- `view::view`: one law for each way out, over the answer and the two references.
+-- `view`: one law for each way out, over the answer and the two references.
 use mathlib.Core.Path.{_≡_, refl, ap, _∙_}
 use mathlib.Core.Bool.{Bool, true, false, cond, _&&_}
 use mathlib.Core.List.{List, [], _∷_}
@@ -15,11 +15,11 @@ use Rattle.calendar.specs.declared.Number.{Number}
 use Rattle.calendar.specs.declared.Slot.{Slot}
 use Rattle.plan.specs.Limits.{payloadBytes, slotBytes}
 use Rattle.slots.specs.Slots.{slotAt, payloadIn}
 use Rattle.mailbox.specs.View.{viewOf, placeOf, after, slotInside, fillerFits}
 use Rattle.mailbox.specs.declared.Received.{Received}
 use Rattle.mailbox.proofs.Received.{the-type}
-use Rattle.mailbox.proofs.view.view.Statement.{statement}
-use Rattle.mailbox.proofs.view.view.Tie as tie
+use Rattle.view.proofs.view.Statement.{statement}
+use Rattle.view.proofs.view.Tie as tie
 
 -- a filler that does not fit
 unfit : (a : Received) (m f : RefT (List ℕ)) → fillerFits (now f) ≡ false → ([] ≡ viewOf a (now m) (now f)) × (f .ptr ≡ placeOf a m f)
