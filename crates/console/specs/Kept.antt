@@ -1,11 +1,11 @@
 -- What every turn keeps of a desk: the plan that it runs is sound, so that a call on it need not test rule 7 again.
 use Prim.Native.Nat.{ℕ}
-use native.Mathlib.Omega.{arith}
 use mathlib.Core.Bool.{Bool, true, false, cond}
 use mathlib.Core.List.{List}
 use mathlib.Core.Path.{_≡_, refl}
 use lib.Dec.{leb, ltb}
 use lib.ListN.{length}
+use Rattle.common.specs.Tests.{clash}
 use Rattle.plan.specs.Limits.{taskLimit, queueLimit}
 use Rattle.plan.specs.Rules.{soundPlan}
 use Rattle.plan.specs.declared.Plan.{Plan}
@@ -25,7 +25,7 @@ pub record Kept (d : Desk) : Type 0 where
   pub sound : d .running ≡ true → soundPlan (d .plan) ≡ true
 
 pub kept-new : Kept newDesk
-kept-new = record { sound = λ e. absurd (let z : _≡_ {A = ℕ} 0 1 = cc in omega arith) }
+kept-new = record { sound = λ e. absurd (clash e refl) }
 
 kept-run : (d : Desk) (p : Plan) (s : State) → soundPlan p ≡ true → Kept (withRun d p s)
 unfolding withRun
