@@ -1,10 +1,5 @@
 -- How the calendar's types stand for the model's numbers.
-use Prim.Native.Nat.{ℕ, _<_, _≤_}
-use native.Mathlib.Omega.{arith}
-use mathlib.Core.Bool.{Bool, true, false, cond}
-use mathlib.Core.Path.{_≡_, refl}
-use lib.Dec.{leb}
-use borrow.Author.Tests.{leb-true, leb-false}
+use Rattle.common.specs.Words.{ℕ, _<_, _≤_, arith, Bool, true, false, cond, _≡_, refl, leb, leb-true, leb-false}
 use Rattle.calendar.specs.declared.Tick.{Tick}
 use Rattle.calendar.specs.declared.Job.{Job}
 use Rattle.calendar.specs.declared.Number.{Number}

@@ -1,9 +1,5 @@
 -- Ranks in a finite set of rows under a strict total order: every rank below the set's size is taken. Nothing here is about queues.
-use Prim.Native.Nat.{ℕ, zero, suc, _+_, _-_, _<_, _≤_}
-use native.Mathlib.Omega.{arith}
-use mathlib.Core.Bool.{Bool, true, false}
-use mathlib.Core.Logic.{⊎-elim}
-use mathlib.Core.Path.{_≡_, refl}
+use Rattle.common.specs.Words.{ℕ, zero, suc, _+_, _-_, _<_, _≤_, arith, Bool, true, false, ⊎-elim, _≡_, refl}
 use Rattle.common.specs.Totals.{only, sum, only-le, sum-le, sum-lt}
 use Rattle.common.specs.Tests.{lt-or-le, having}
 

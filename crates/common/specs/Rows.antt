@@ -1,12 +1,6 @@
 -- Tests over the rows below n: that every row passes, and which row is the first that does not.
-use Prim.Native.Nat.{ℕ, zero, suc, _+_, _<_, _≤_}
-use native.Mathlib.Omega.{arith}
-use native.Mathlib.Numerals.{add-one}
-use mathlib.Core.Bool.{Bool, true, false, cond, not, _&&_}
-use mathlib.Core.Logic.{_⊎_, inl, inr, _↔_, ⊎-elim}
-use mathlib.Core.Path.{_≡_, refl, sym, subst, _∙_}
-use lib.Dec.{ltb}
-use borrow.Author.Tests.{lt-ltb, le-ltb, ltb-true, not-true, not-false}
+use Rattle.common.specs.Words.{ℕ, zero, suc, _+_, _<_, _≤_, arith, add-one, Bool, true, false, cond, not, _&&_, _⊎_, inl, inr, _↔_, ⊎-elim}
+use Rattle.common.specs.Words.{_≡_, refl, sym, subst, _∙_, ltb, lt-ltb, le-ltb, ltb-true, not-true, not-false}
 use Rattle.common.specs.Tests.{lt-or-le, true-or-false, having, clash, and-left, and-right}
 
 -- the test passes at every row below n

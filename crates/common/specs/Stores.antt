@@ -1,13 +1,8 @@
 -- A run of stores, `sets l i vs`: what it leaves at each index, in each part, and after one store more.
-use mathlib.Core.Path.{_≡_, refl, sym, ap, _∙_}
-use mathlib.Core.List.{List, [], _∷_, _++_}
-use Prim.Native.Nat.{ℕ, zero, suc, _+_, _≤_, _<_}
-use native.Mathlib.Nat.{add-zero, not-suc-le-zero, le-of-suc-le-suc}
-use native.Mathlib.Numerals.{add-one}
-use native.Mathlib.Omega.{arith}
-use mathlib.Core.Logic.{_⊎_, ⊎-elim}
-use lib.ListN.{length, getD, take, drop, set, length-set, length-take, length-drop}
-use lib.Seq.{sets, length-sets, take-suc, length-take-le, getD-set-same, getD-set-other, getD-take, getD-drop, ext-getD}
+use Rattle.common.specs.Words.{_≡_, refl, sym, ap, _∙_, List, [], _∷_, _++_, ℕ, zero, suc, _+_, _≤_, _<_, add-zero, not-suc-le-zero}
+use Rattle.common.specs.Words.{le-of-suc-le-suc, add-one, arith, _⊎_, ⊎-elim, length, getD, take, drop, set, length-set, length-take}
+use Rattle.common.specs.Words.{length-drop, sets, length-sets, take-suc, length-take-le, getD-set-same, getD-set-other, getD-take, getD-drop}
+use Rattle.common.specs.Words.{ext-getD}
 
 -- the n elements from index i on
 abbrev pub part : List ℕ → ℕ → ℕ → List ℕ

@@ -1,13 +1,7 @@
 -- The list f 0, f 1, .., f (n - 1): what a loop that fills an array from the front leaves.
-use mathlib.Core.Path.{_≡_, refl, sym, _∙_}
-use mathlib.Core.List.{List, [], _∷_, _++_}
-use Prim.Native.Nat.{ℕ, zero, suc, _+_, _<_}
-use native.Mathlib.Nat.{not-suc-le-zero, le-of-suc-le-suc, eq-or-lt-of-le}
-use native.Mathlib.Numerals.{add-one}
-use native.Mathlib.Omega.{arith}
-use mathlib.Core.Logic.{⊎-elim}
-use lib.ListN.{length, getD, take, set, length-append, List·getD-append}
-use lib.Seq.{take-all, take-suc-set, getD-at}
+use Rattle.common.specs.Words.{_≡_, refl, sym, _∙_, List, [], _∷_, _++_, ℕ, zero, suc, _+_, _<_, not-suc-le-zero, le-of-suc-le-suc}
+use Rattle.common.specs.Words.{eq-or-lt-of-le, add-one, arith, ⊎-elim, length, getD, take, set, length-append, List·getD-append, take-all}
+use Rattle.common.specs.Words.{take-suc-set, getD-at}
 
 module _ {A : Type 0} where
   unfoldable pub table : (ℕ → A) → ℕ → List A

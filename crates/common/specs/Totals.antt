@@ -1,12 +1,6 @@
 -- Totals over the numbers below n, most often the rows of a table: sums and greatest values.
-use Prim.Native.Nat.{ℕ, zero, suc, _+_, _-_, _*_, _<_, _≤_, max}
-use native.Mathlib.Omega.{arith}
-use native.Mathlib.Numerals.{add-one}
-use mathlib.Core.Bool.{Bool, true, false}
-use mathlib.Core.Logic.{_↔_, ⊎-elim}
-use mathlib.Core.Path.{_≡_, refl, subst}
-use lib.Dec.{eqb}
-use borrow.Author.Tests.{eq-eqb, ne-eqb}
+use Rattle.common.specs.Words.{ℕ, zero, suc, _+_, _-_, _*_, _<_, _≤_, max, arith, add-one, Bool, true, false, _↔_, ⊎-elim, _≡_, refl, subst}
+use Rattle.common.specs.Words.{eqb, eq-eqb, ne-eqb}
 use Rattle.common.specs.Tests.{lt-or-le}
 
 -- n where the test passes, else 0

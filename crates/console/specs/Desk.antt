@@ -1,33 +1,16 @@
 -- The console's desk, line by line: what a line does to the desk and to the lent memory, and the line that answers it. A line is any
 -- list of bytes. Everything below is document 01's paragraph "The console".
-use Prim.Native.Nat.{ℕ, _+_, _/_, _%_, _^_}
-use mathlib.Core.Bool.{Bool, true, false, cond}
-use mathlib.Core.List.{List, []}
-use mathlib.Core.Path.{_≡_}
-use lib.Dec.{leb, ltb, eqb}
-use lib.ListN.{length, getD, set, replicate}
-use lib.Seq.{sets}
+use Rattle.common.specs.Words.{ℕ, _+_, _/_, _%_, _^_, Bool, true, false, cond, List, [], _≡_, leb, ltb, eqb, length, getD, set, replicate, sets}
 use Rattle.common.specs.Table.{table}
-use Rattle.calendar.specs.declared.Tick.{Tick}
 use Rattle.plan.specs.Limits.{taskLimit, queueLimit, payloadBytes}
 use Rattle.plan.specs.Plan.{zeros}
-use Rattle.plan.specs.declared.Plan.{Plan}
-use Rattle.plan.specs.declared.refusal.Refusal.{Refusal}
 use Rattle.planning.specs.Planning.{planOf}
-use Rattle.planning.specs.declared.Planned.{Planned}
-use Rattle.planning.specs.declared.Answer.{Answer}
 use Rattle.mailbox.specs.Calls.{fresh, startAnswer, startMemory, sendAnswer, sendState, sendMemory, look, receiveState}
 use Rattle.mailbox.specs.View.{viewOf}
-use Rattle.mailbox.specs.declared.State.{State}
-use Rattle.mailbox.specs.declared.Started.{Started}
-use Rattle.mailbox.specs.declared.Sent.{Sent}
-use Rattle.mailbox.specs.declared.Received.{Received}
 use Rattle.digits.specs.Hex.{isLine, bytesIn}
 use Rattle.frames.specs.Frames.{frameOf, payloadIn}
 use Rattle.frames.specs.Answers.{longestAnswer, sizesBytes, storedBytes, messageBytes, gapBytes, emptyBytes, refusalBytes, badBytes, lineOf}
-use Rattle.frames.specs.declared.frame.Frame.{Frame}
-use Rattle.console.specs.declared.Desk.{Desk}
-use Rattle.console.specs.declared.Stepped.{Stepped}
+use Rattle.console.specs.Types.{Tick, Plan, Refusal, Planned, Answer, State, Started, Sent, Received, Frame, Desk, Stepped}
 
 -- what a line comes to: the desk and the memory after it, and the bytes of the line that answers it, none where it has no answer
 pub record Turn : Type 0 where

@@ -1,32 +1,18 @@
--- No answer of the console is longer than 64 bytes, and a line of over 100 bytes is answered as its first 101 are.
-use Prim.Native.Nat.{ℕ, _<_, _≤_}
-use native.Mathlib.Omega.{arith}
-use mathlib.Core.Bool.{Bool, true, false, cond}
-use mathlib.Core.List.{List}
-use mathlib.Core.Logic.{⊎-elim}
-use mathlib.Core.Path.{_≡_, refl, sym, _∙_}
-use lib.ListN.{length, take, length-append, length-take}
-use lib.Seq.{take-all}
-use borrow.Author.Tests.{lt-leb}
-use Rattle.common.specs.Tests.{lt-or-le}
+-- No answer of the console is longer than 64 bytes.
+use Rattle.common.specs.Words.{ℕ, _≤_, arith, Bool, true, false, cond, List, _≡_, refl, length, length-append}
 use Rattle.plan.specs.Limits.{payloadBytes}
-use Rattle.plan.specs.declared.Plan.{Plan}
-use Rattle.plan.specs.declared.refusal.Refusal.{Refusal}
-use Rattle.planning.specs.declared.Answer.{Answer}
 use Rattle.mailbox.specs.Calls.{startAnswer, sendAnswer, look}
 use Rattle.mailbox.specs.View.{viewOf}
-use Rattle.mailbox.specs.declared.Started.{Started}
-use Rattle.mailbox.specs.declared.Sent.{Sent}
-use Rattle.mailbox.specs.declared.Received.{Received}
-use Rattle.digits.specs.Hex.{longestLine, isLine, bytesIn}
+use Rattle.digits.specs.Hex.{isLine, bytesIn}
 use Rattle.digits.specs.NumberLaws.{bytes-length}
 use Rattle.frames.specs.Frames.{frameOf, payloadIn}
 use Rattle.frames.specs.Writing.{line-length, sizes-length}
 use Rattle.frames.specs.Answers.{longestAnswer, sizesBytes, storedBytes, messageBytes, gapBytes, emptyBytes, refusalBytes, badBytes, lineOf}
-use Rattle.frames.specs.declared.frame.Frame.{Frame}
-use Rattle.console.specs.declared.Desk.{Desk}
-use Rattle.console.specs.Desk.{Turn, silent, bad, rowTurn, planned, startTurn, planTurn, goTurn, sentBytes, sendTurn, filler, receivedBytes, receiveTurn, frameTurn, bytesTurn, lineTurn}
-use Rattle.console.specs.Turns.{started-queues, view-short}
+use Rattle.console.specs.Types.{Plan, Refusal, Answer, Started, Sent, Received, Frame, Desk}
+use Rattle.console.specs.Desk.{Turn, silent, bad, rowTurn, planned, startTurn, planTurn, goTurn, frameTurn, bytesTurn, lineTurn}
+use Rattle.console.specs.Desk.{sentBytes, sendTurn, filler, receivedBytes, receiveTurn}
+use Rattle.console.specs.Starts.{started-queues}
+use Rattle.console.specs.CallTurns.{view-short}
 
 -- ## An answer's bytes, at most 31: their digits and the line feed are 63
 
@@ -48,7 +34,9 @@ few-sent (Sent.Refused r) = few-refusal r
 
 few-received : (m : List ℕ) (a : Received) → Few (receivedBytes m a)
 unfolding messageBytes gapBytes emptyBytes
-few-received m (Received.Message n s) = let v : length (viewOf (Received.Message n s) m filler) ≤ payloadBytes = view-short (Received.Message n s) m in simp (length-append, bytes-length) (omega arith)
+few-received m (Received.Message n s) =
+    let v : length (viewOf (Received.Message n s) m filler) ≤ payloadBytes = view-short (Received.Message n s) m in
+    simp (length-append, bytes-length) (omega arith)
 few-received m (Received.Gap n i) = simp (length-append, bytes-length) (omega arith)
 few-received m Received.Empty = simp bytes-length (omega arith)
 few-received m (Received.Refused r) = few-refusal r
@@ -104,16 +92,5 @@ short-frame d m payload Frame.Bad = short-bad d m
 pub answer-fits : (d : Desk) (m line : List ℕ) → length (lineTurn d m line .answer) ≤ longestAnswer
 unfolding lineTurn bytesTurn
 answer-fits d m line =
-    short-if (isLine line) (bytesTurn d m (bytesIn line)) (bad d m) (short-frame d m (payloadIn (bytesIn line)) (frameOf (bytesIn line))) (short-bad d m)
-
--- ## A line that is too long
-
-too-long : (d : Desk) (m line : List ℕ) → longestLine < length line → lineTurn d m line ≡ bad d m
-unfolding lineTurn isLine
-too-long d m line h = rw (lt-leb (length line) longestLine h)
-
-pub line-taken : (d : Desk) (m line : List ℕ) (n : ℕ) → longestLine < n → lineTurn d m (take n line) ≡ lineTurn d m line
-line-taken d m line n h =
-    ⊎-elim (λ (g : longestLine < length line). too-long d m (take n line) (omega (arith, length-take n line)) ∙ sym (too-long d m line g))
-    (λ (g : length line ≤ longestLine). let e : take n line ≡ line = take-all n line (omega arith) in rw e)
-    (lt-or-le longestLine (length line))
+    short-if (isLine line) (bytesTurn d m (bytesIn line)) (bad d m) (short-frame d m (payloadIn (bytesIn line)) (frameOf (bytesIn line)))
+    (short-bad d m)

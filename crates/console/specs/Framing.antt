@@ -1,18 +1,11 @@
 -- A line's bytes as the code takes them: a line that is no frame has none, and no bytes are no frame either.
-use Prim.Native.Nat.{ℕ, _≤_}
-use native.Mathlib.Omega.{arith}
-use mathlib.Core.Bool.{Bool, true, false, cond}
-use mathlib.Core.List.{List, []}
-use mathlib.Core.Path.{_≡_, refl, sym, _∙_}
-use lib.ListN.{length, take}
-use borrow.Author.Tests.{le-ltb}
+use Rattle.common.specs.Words.{ℕ, _≤_, arith, Bool, true, false, cond, List, [], _≡_, refl, sym, _∙_, length, take, le-ltb}
 use Rattle.digits.specs.Hex.{mostBytes, isLine, bytesIn, decodedOf, decodedInto}
 use Rattle.digits.specs.HexLaws.{decoded-holds, decoded-none}
-use Rattle.digits.specs.declared.hex.Decoded.{Decoded}
+use Rattle.console.specs.Types.{Decoded, Desk}
 use Rattle.frames.specs.Answers.{longestAnswer}
 use Rattle.frames.specs.Frames.{frameOf}
 use Rattle.console.specs.Desk.{bad, bytesTurn, lineTurn, stepOf}
-use Rattle.console.specs.declared.Desk.{Desk}
 
 unfoldable pub framedBytes : List ℕ → List ℕ
 framedBytes line = cond (isLine line) (bytesIn line) []

@@ -1,25 +1,16 @@
 -- What every turn keeps of a desk: the plan that it runs is sound, so that a call on it need not test rule 7 again.
-use Prim.Native.Nat.{ℕ}
-use mathlib.Core.Bool.{Bool, true, false, cond}
-use mathlib.Core.List.{List}
-use mathlib.Core.Path.{_≡_, refl}
-use lib.Dec.{leb, ltb}
-use lib.ListN.{length}
+use Rattle.common.specs.Words.{ℕ, Bool, true, false, cond, List, _≡_, refl, leb, ltb, length}
 use Rattle.common.specs.Tests.{clash}
 use Rattle.plan.specs.Limits.{taskLimit, queueLimit}
 use Rattle.plan.specs.Rules.{soundPlan}
-use Rattle.plan.specs.declared.Plan.{Plan}
 use Rattle.planning.specs.Accepted.{accepted-made}
-use Rattle.planning.specs.declared.Answer.{Answer}
 use Rattle.mailbox.specs.Calls.{startAnswer}
-use Rattle.mailbox.specs.declared.State.{State}
-use Rattle.mailbox.specs.declared.Started.{Started}
 use Rattle.digits.specs.Hex.{isLine, bytesIn}
 use Rattle.frames.specs.Answers.{longestAnswer}
 use Rattle.frames.specs.Frames.{frameOf, payloadIn}
-use Rattle.frames.specs.declared.frame.Frame.{Frame}
-use Rattle.console.specs.Desk.{Turn, silent, bad, newDesk, rowTurn, withTask, withQueue, squareOf, planned, withRun, startTurn, planTurn, goTurn, withState, sendTurn, receiveTurn, frameTurn, bytesTurn, lineTurn, stepOf}
-use Rattle.console.specs.declared.Desk.{Desk}
+use Rattle.console.specs.Types.{Plan, Answer, State, Started, Frame, Desk}
+use Rattle.console.specs.Desk.{newDesk, squareOf, planned, withTask, withQueue, withRun, withState, stepOf}
+use Rattle.console.specs.Desk.{Turn, silent, bad, rowTurn, startTurn, planTurn, goTurn, sendTurn, receiveTurn, frameTurn, bytesTurn, lineTurn}
 
 pub record Kept (d : Desk) : Type 0 where
   pub sound : d .running ≡ true → soundPlan (d .plan) ≡ true
@@ -64,8 +55,10 @@ planned-sound d e = accepted-made (d .tasks) (d .queues) (d .period) (d .deadlin
 
 keeps-frame : (d : Desk) (m payload : List ℕ) (f : Frame) → Kept d → Keeps (frameTurn d m payload f)
 unfolding withTask withQueue goTurn sendTurn receiveTurn
-keeps-frame d m payload (Frame.Task period deadline) k = keeps-row d m (leb taskLimit (d .tasks)) (withTask d period deadline) k (record { sound = k .sound })
-keeps-frame d m payload (Frame.Queue receiver mask) k = keeps-row d m (leb queueLimit (d .queues)) (withQueue d receiver mask) k (record { sound = k .sound })
+keeps-frame d m payload (Frame.Task period deadline) k =
+    keeps-row d m (leb taskLimit (d .tasks)) (withTask d period deadline) k (record { sound = k .sound })
+keeps-frame d m payload (Frame.Queue receiver mask) k =
+    keeps-row d m (leb queueLimit (d .queues)) (withQueue d receiver mask) k (record { sound = k .sound })
 keeps-frame d m payload Frame.Go k = keeps-if (d .running) (bad d m) _ k (keeps-plan d (planned d .plan) m (planned d .answer) (planned-sound d))
 keeps-frame d m payload (Frame.Send q i t) k = keeps-if (d .running) _ (bad d m) (kept-state d _ k) k
 keeps-frame d m payload (Frame.Receive q t) k = keeps-if (d .running) _ (bad d m) (kept-state d _ k) k

@@ -1,7 +1,14 @@
+pub mod Types
 pub mod Desk
 pub mod Turns
-pub mod Calls
+pub mod Starts
+pub mod CallTurns
+pub mod Entries
+pub mod Stored
+pub mod SendCalls
+pub mod ReceiveCalls
 pub mod Framing
+pub mod LongLines
 pub mod Kept
 pub mod Fits
 pub mod Unique

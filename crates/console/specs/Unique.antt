@@ -1,10 +1,7 @@
 -- The contract of a step determines its outcome.
-use Prim.Native.Nat.{ℕ}
-use mathlib.Core.List.{List}
-use mathlib.Core.Path.{_≡_, sym, _∙_}
+use Rattle.common.specs.Words.{ℕ, List, _≡_, sym, _∙_}
 use Rattle.console.specs.Desk.{Takes, stepOf}
-use Rattle.console.specs.declared.Desk.{Desk}
-use Rattle.console.specs.declared.Stepped.{Stepped}
+use Rattle.console.specs.Types.{Desk, Stepped}
 
 pub step-unique : (d : Desk) (m line out : List ℕ) (r r′ : Stepped) (memory memory′ after after′ : List ℕ) →
     Takes (stepOf d m line out) out r memory after → Takes (stepOf d m line out) out r′ memory′ after′ →

@@ -3,22 +3,17 @@
 use crate::run::write_received;
 use crate::run::write_sent;
 use calendar::Tick;
-use calendar::job_at;
-use frames::answers::write_bad;
 use mailbox::Received;
 use mailbox::Sent;
-use mailbox::receive::receive_on;
-use mailbox::send::send_on;
 use plan::Plan;
-ghost use mathlib.Core.Path.{_≡_};
-ghost use mathlib.Core.Bool.{true};
-ghost use Prim.Native.Nat.{_≤_};
-ghost use lib.ListN.{length};
+ghost use Rattle.common.specs.Words.{_≡_, true, _≤_, length};
+ghost use Rattle.plan.specs.Plan.{lentPlan};
 ghost use Rattle.plan.specs.Rules.{soundPlan};
 ghost use Rattle.frames.specs.Answers.{longestAnswer};
-ghost use Rattle.console.specs.declared.Desk.{Desk};
+ghost use Rattle.console.specs.Types.{Desk};
 ghost use Rattle.console.specs.Desk.{sendTurn, receiveTurn, Takes};
-ghost use Rattle.console.specs.Calls.{SendsOn, sent, Countable, leftBy, ReadsOn, read};
+ghost use Rattle.console.specs.SendCalls.{SendsOn, sent};
+ghost use Rattle.console.specs.ReceiveCalls.{Countable, leftBy, ReadsOn, read};
 
 // What a call looks at: whether a plan was started, the state's tick, and the entry of the queue and the task, or the queue's reading
 // place.
@@ -35,8 +30,15 @@ pub struct Called {
     pub written: usize,
 }
 
-pub fn send_line(
-    plan: Plan,
+pub fn send_line<'a>(
+    sends: &'a [bool; Plan::CELLS],
+    period: &'a [u64; Plan::TASKS],
+    deadline: &'a [u64; Plan::TASKS],
+    receiver: &'a [usize; Plan::QUEUES],
+    size: &'a [usize; Plan::QUEUES],
+    place: &'a [usize; Plan::QUEUES],
+    tasks: usize,
+    queues: usize,
     spot: Spot,
     memory: &mut [u8],
     queue: usize,
@@ -45,19 +47,29 @@ pub fn send_line(
     payload: &[u8],
     out: &mut [u8],
 ) -> Called
-    requires { ⌜ (spot .running ≡ true → soundPlan plan ≡ true) × (longestAnswer ≤ length (now out)) ⌝ }
-    ensures { λ r. ⌜ ((d : Desk) → SendsOn d plan spot queue task →
+    requires { ⌜ (spot .running ≡ true → soundPlan (lentPlan (now sends) (now period) (now deadline) (now receiver) (now size) (now place) tasks queues) ≡ true)
+        × (longestAnswer ≤ length (now out)) ⌝ }
+    ensures { λ r. ⌜ ((d : Desk) → SendsOn d
+        (lentPlan (now (sends .entry)) (now (period .entry)) (now (deadline .entry)) (now (receiver .entry)) (now (size .entry)) (now (place .entry)) tasks queues)
+        spot queue task →
         Takes (sendTurn d (now (memory .entry)) queue task at (now (payload .entry))) (now (out .entry)) (sent d queue task r) (now (memory .exit)) (now (out .exit))) ⌝ }
 {
     if !spot.running {
         return Called {
             tick: spot.tick,
             entry: spot.entry,
-            written: write_bad(out),
+            written: frames::answers::write_bad(out),
         };
     }
-    let answer = send_on(
-        plan,
+    let answer = mailbox::send::send_on(
+        sends,
+        period,
+        deadline,
+        receiver,
+        size,
+        place,
+        tasks,
+        queues,
         memory,
         queue,
         task,
@@ -74,7 +86,7 @@ pub fn send_line(
             written,
         };
     }
-    let job = job_at(plan.period[task], at);
+    let job = calendar::job_at(period[task], at);
     Called {
         tick: at.0,
         entry: job.0 + 1,
@@ -111,26 +123,50 @@ fn left(answer: Received, at: Tick, spot: Spot, written: usize) -> Called
     }
 }
 
-pub fn receive_line(
-    plan: Plan,
+pub fn receive_line<'a>(
+    sends: &'a [bool; Plan::CELLS],
+    period: &'a [u64; Plan::TASKS],
+    deadline: &'a [u64; Plan::TASKS],
+    receiver: &'a [usize; Plan::QUEUES],
+    size: &'a [usize; Plan::QUEUES],
+    place: &'a [usize; Plan::QUEUES],
+    tasks: usize,
+    queues: usize,
     spot: Spot,
     memory: &[u8],
     queue: usize,
     at: Tick,
     out: &mut [u8],
 ) -> Called
-    requires { ⌜ (spot .running ≡ true → soundPlan plan ≡ true) × (longestAnswer ≤ length (now out)) ⌝ }
-    ensures { λ r. ⌜ ((d : Desk) → ReadsOn d plan spot queue →
+    requires { ⌜ (spot .running ≡ true → soundPlan (lentPlan (now sends) (now period) (now deadline) (now receiver) (now size) (now place) tasks queues) ≡ true)
+        × (longestAnswer ≤ length (now out)) ⌝ }
+    ensures { λ r. ⌜ ((d : Desk) → ReadsOn d
+        (lentPlan (now (sends .entry)) (now (period .entry)) (now (deadline .entry)) (now (receiver .entry)) (now (size .entry)) (now (place .entry)) tasks queues)
+        spot queue →
         Takes (receiveTurn d (now (memory .entry)) queue at) (now (out .entry)) (read d queue r) (now (memory .entry)) (now (out .exit))) ⌝ }
 {
     if !spot.running {
         return Called {
             tick: spot.tick,
             entry: spot.entry,
-            written: write_bad(out),
+            written: frames::answers::write_bad(out),
         };
     }
-    let answer = receive_on(plan, memory, queue, at, Tick(spot.tick), spot.entry);
+    let answer = mailbox::receive::receive_on(
+        sends,
+        period,
+        deadline,
+        receiver,
+        size,
+        place,
+        tasks,
+        queues,
+        memory,
+        queue,
+        at,
+        Tick(spot.tick),
+        spot.entry,
+    );
     let written = write_received(out, memory, answer);
     left(answer, at, spot, written)
 }

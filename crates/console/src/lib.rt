@@ -7,11 +7,7 @@ pub mod calls; // calls.rt: the same for a caller that keeps the desk where it l
 
 use digits::hex::BYTES;
 use digits::hex::Decoded;
-use digits::hex::decode;
-use frames::answers::write_bad;
 use frames::frame::Frame;
-use frames::frame::frame_of;
-use frames::frame::payload_in;
 use mailbox::State;
 use plan::Plan;
 use run::receive;
@@ -19,10 +15,7 @@ use run::send;
 use table::add_queue;
 use table::add_task;
 use table::go;
-ghost use mathlib.Core.Path.{_≡_};
-ghost use mathlib.Core.List.{List};
-ghost use Prim.Native.Nat.{ℕ, _≤_};
-ghost use lib.ListN.{length, take};
+ghost use Rattle.common.specs.Words.{_≡_, List, ℕ, _≤_, length, take};
 ghost use Rattle.digits.specs.Hex.{mostBytes};
 ghost use Rattle.frames.specs.Answers.{longestAnswer};
 ghost use Rattle.console.specs.Desk.{newDesk, bad, bytesTurn, stepOf, Takes};
@@ -79,7 +72,7 @@ fn refuse_line(desk: Desk, out: &mut [u8]) -> Stepped
 {
     Stepped {
         desk,
-        written: write_bad(out),
+        written: frames::answers::write_bad(out),
     }
 }
 
@@ -88,7 +81,7 @@ pub fn bytes_in(line: &[u8], bytes: &mut [u8]) -> usize
     requires { ⌜ mostBytes ≤ length (now bytes) ⌝ }
     ensures { λ r. ⌜ (r ≤ mostBytes) × (take r (now (bytes .exit)) ≡ framedBytes (now (line .entry))) ⌝ }
 {
-    let decoded = decode(line, bytes);
+    let decoded = digits::hex::decode(line, bytes);
     if let Decoded::Bytes(n) = decoded {
         return n;
     }
@@ -99,12 +92,20 @@ pub fn act(desk: Desk, memory: &mut [u8], bytes: &[u8], out: &mut [u8]) -> Stepp
     requires { ⌜ longestAnswer ≤ length (now out) ⌝ }
     ensures { λ r. ⌜ Takes (bytesTurn desk (now (memory .entry)) (now (bytes .entry))) (now (out .entry)) r (now (memory .exit)) (now (out .exit)) ⌝ }
 {
-    let frame = frame_of(bytes);
+    let frame = frames::frame::frame_of(bytes);
     match frame {
         Frame::Task(period, deadline) => add_task(desk, out, period, deadline),
         Frame::Queue(receiver, mask) => add_queue(desk, out, receiver, mask),
         Frame::Go => go(desk, memory, out),
-        Frame::Send(queue, task, at) => send(desk, memory, out, queue, task, at, payload_in(bytes)),
+        Frame::Send(queue, task, at) => send(
+            desk,
+            memory,
+            out,
+            queue,
+            task,
+            at,
+            frames::frame::payload_in(bytes),
+        ),
         Frame::Receive(queue, at) => receive(desk, memory, out, queue, at),
         Frame::Bad => refuse_line(desk, out),
     }

@@ -3,19 +3,11 @@ use crate::Desk;
 use crate::Stepped;
 use crate::refuse_line;
 use calendar::Tick;
-use frames::answers::write_empty;
-use frames::answers::write_gap;
-use frames::answers::write_message;
-use frames::answers::write_refusal;
-use frames::answers::write_stored;
 use mailbox::Received;
 use mailbox::Sent;
 use mailbox::State;
 use plan::Plan;
-use view::view;
-ghost use mathlib.Core.Path.{_≡_};
-ghost use Prim.Native.Nat.{_≤_};
-ghost use lib.ListN.{length};
+ghost use Rattle.common.specs.Words.{_≡_, _≤_, length};
 ghost use Rattle.frames.specs.Answers.{longestAnswer};
 ghost use Rattle.frames.specs.Writing.{Written};
 ghost use Rattle.console.specs.Desk.{withState, sentBytes, receivedBytes, sendTurn, receiveTurn, Takes};
@@ -32,8 +24,8 @@ pub fn write_sent(out: &mut [u8], answer: Sent) -> usize
     ensures { λ r. ⌜ Written (sentBytes answer) (now (out .entry)) r (now (out .exit)) ⌝ }
 {
     match answer {
-        Sent::Stored(number, slot) => write_stored(out, number, slot),
-        Sent::Refused(refusal) => write_refusal(out, refusal),
+        Sent::Stored(number, slot) => frames::answers::write_stored(out, number, slot),
+        Sent::Refused(refusal) => frames::answers::write_refusal(out, refusal),
     }
 }
 
@@ -70,15 +62,15 @@ pub fn write_received(out: &mut [u8], memory: &[u8], answer: Received) -> usize
 {
     if let Received::Message(number, _) = answer {
         let filler = [0; Plan::PAYLOAD_BYTES];
-        return write_message(out, number, view(answer, memory, &filler));
+        return frames::answers::write_message(out, number, view::view(answer, memory, &filler));
     }
     if let Received::Gap(number, sender) = answer {
-        return write_gap(out, number, sender);
+        return frames::answers::write_gap(out, number, sender);
     }
     if let Received::Refused(refusal) = answer {
-        return write_refusal(out, refusal);
+        return frames::answers::write_refusal(out, refusal);
     }
-    write_empty(out)
+    frames::answers::write_empty(out)
 }
 
 pub fn receive(desk: Desk, memory: &[u8], out: &mut [u8], queue: usize, at: Tick) -> Stepped

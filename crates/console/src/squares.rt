@@ -1,6 +1,6 @@
 // The square of yes and no from the sender masks.
 use plan::Plan;
-ghost use mathlib.Core.Path.{_≡_};
+ghost use Rattle.common.specs.Words.{_≡_};
 ghost use Rattle.console.specs.Desk.{rowOf, squareOf};
 
 fn row_of(mask: u64) -> [bool; Plan::TASKS]

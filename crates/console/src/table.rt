@@ -3,19 +3,13 @@ use crate::Desk;
 use crate::Stepped;
 use crate::refuse_line;
 use crate::squares::square_of;
-use frames::answers::write_refusal;
-use frames::answers::write_sizes;
 use mailbox::Started;
 use mailbox::State;
 use plan::Plan;
 use plan::refusal::Refusal;
 use planning::Answer;
 use planning::Planned;
-use planning::make_plan;
-ghost use mathlib.Core.Path.{_≡_};
-ghost use mathlib.Core.List.{List};
-ghost use Prim.Native.Nat.{ℕ, _≤_};
-ghost use lib.ListN.{length};
+ghost use Rattle.common.specs.Words.{_≡_, List, ℕ, _≤_, length};
 ghost use Rattle.frames.specs.Answers.{longestAnswer, refusalBytes};
 ghost use Rattle.mailbox.specs.Calls.{startAnswer};
 ghost use Rattle.console.specs.Desk.{says, taskTurn, queueTurn, planned, withRun, startTurn, goTurn, Takes};
@@ -61,7 +55,7 @@ fn plan_of(desk: Desk) -> Planned
     let deadline = desk.deadline;
     let receiver = desk.receiver;
     let senders = desk.senders;
-    make_plan(
+    planning::make_plan(
         desk.tasks,
         desk.queues,
         period,
@@ -77,7 +71,7 @@ fn refuse(desk: Desk, out: &mut [u8], refusal: Refusal) -> Stepped
 {
     Stepped {
         desk,
-        written: write_refusal(out, refusal),
+        written: frames::answers::write_refusal(out, refusal),
     }
 }
 
@@ -101,7 +95,7 @@ fn start(desk: Desk, plan: Plan, memory: &mut [u8], out: &mut [u8]) -> Stepped
         return refuse(emptied, out, reason);
     }
     let size = plan.size;
-    let written = write_sizes(out, size, plan.queues);
+    let written = frames::answers::write_sizes(out, size, plan.queues);
     let state = starting.state;
     Stepped {
         desk: with_run(desk, plan, state),

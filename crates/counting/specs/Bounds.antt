@@ -1,15 +1,7 @@
 -- What lent columns allow: their rows can be divided by, and their counts fit 64 bits up to the last tick.
-use Prim.Native.Nat.{ℕ, _*_, _<_, _≤_}
-use native.Mathlib.Omega.{arith}
-use native.Mathlib.Nat.{mul-le-mul-right}
-use mathlib.Core.Bool.{Bool}
-use mathlib.Core.List.{List}
-use mathlib.Core.Logic.{⊎-elim}
-use lib.ListN.{getD}
+use Rattle.common.specs.Words.{ℕ, _*_, _<_, _≤_, arith, mul-le-mul-right, Bool, List, ⊎-elim, getD}
 use Rattle.common.specs.Tests.{lt-or-le}
-use Rattle.common.specs.Totals.{only-most}
-use Rattle.model.specs.Model.{rowUpTo, upTo}
-use Rattle.model.specs.Count.{count-le}
+use Rattle.model.specs.Model.{upTo}
 use Rattle.model.specs.Order.{period-pos}
 use Rattle.model.specs.Number.{upTo-le, upTo-mono}
 use Rattle.plan.specs.Limits.{taskLimit, lastTick}
@@ -18,11 +10,6 @@ use Rattle.counting.specs.Columns.{columnsAt, Lent}
 module _ {sends : List Bool} {period deadline : List ℕ} {tasks q : ℕ} (l : Lent sends period deadline tasks q) where
   pub row-positive : (i : ℕ) → i < tasks → (1 ≤ getD period i 0) × (1 ≤ getD deadline i 0)
   row-positive i h = (period-pos (columnsAt sends period deadline tasks q) (l .valid) i h, l .valid .deadline-pos i h)
-
-  pub rowUpTo-le : (t i : ℕ) → i < tasks → rowUpTo (columnsAt sends period deadline tasks q) t i ≤ t
-  rowUpTo-le t i h =
-      only-most (columnsAt sends period deadline tasks q .sends i) _ t
-      (λ y. count-le (getD period i 0) (getD deadline i 0) (row-positive i h .0) (row-positive i h .1) t)
 
   pub upTo-fits : (t : ℕ) → t ≤ lastTick → upTo (columnsAt sends period deadline tasks q) t ≤ taskLimit * lastTick
   upTo-fits t h =

@@ -1,11 +1,6 @@
 -- The columns of a plan, as the functions here are lent them, and the queue that they make. The receiver is not among them, and nothing
 -- here asks for it: row 0 stands in its place. A plan's own columns make the counts of its queue (`upTo-columns` and the laws after it).
-use Prim.Native.Nat.{ℕ, _+_, _-_, _*_, _<_, _≤_}
-use native.Mathlib.Omega.{arith}
-use mathlib.Core.Bool.{Bool, false}
-use mathlib.Core.List.{List}
-use mathlib.Core.Path.{_≡_, refl}
-use lib.ListN.{getD}
+use Rattle.common.specs.Words.{ℕ, _+_, _-_, _*_, _<_, _≤_, arith, Bool, false, List, _≡_, refl, getD}
 use Rattle.model.specs.Model.{Queue, Valid, dueAt, precedes, upTo, followers, tickOf, sentBy, senderOf}
 use Rattle.plan.specs.Limits.{taskLimit, queueLimit}
 use Rattle.plan.specs.Plan.{queueAt, Usable}

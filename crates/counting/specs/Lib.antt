@@ -1,3 +1,3 @@
 pub mod Columns
 pub mod Bounds
-pub mod Share
+pub mod Until

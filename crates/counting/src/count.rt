@@ -1,21 +1,23 @@
-// Equation 1: the messages of a queue with deadlines up to a tick. One row's share is a function of its own, so the sum runs without a
-// branch.
+// Equation 1: the messages of a queue with deadlines up to a tick. One row's share is a function of its own: the sum runs without a
+// branch, and equation 2 adds the same shares.
 use calendar::Tick;
-use calendar::count;
 use plan::Plan;
-ghost use mathlib.Core.Path.{_≡_};
-ghost use Prim.Native.Nat.{_≤_};
+ghost use Rattle.common.specs.Words.{_≡_, _≤_};
 ghost use Rattle.common.specs.Totals.{only};
 ghost use Rattle.model.specs.Model.{count, upTo};
 ghost use Rattle.plan.specs.Limits.{lastTick};
 ghost use Rattle.counting.specs.Columns.{columnsAt, Lent};
 
 // One task's messages, none where it does not send.
-fn row_up_to(on: bool, period: u64, deadline: u64, at: Tick) -> u64
+pub(crate) fn row_up_to(on: bool, period: u64, deadline: u64, at: Tick) -> u64
     requires { ⌜ (1 ≤ period) × (1 ≤ deadline) ⌝ }
     ensures { λ r. ⌜ r ≡ only on (count period deadline (at .0)) ⌝ }
 {
-    if on { count(period, deadline, at) } else { 0 }
+    if on {
+        calendar::count(period, deadline, at)
+    } else {
+        0
+    }
 }
 
 pub fn up_to<'a>(

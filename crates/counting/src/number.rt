@@ -1,12 +1,10 @@
-// Equation 2: the number of a task's message with its deadline at a tick, which is the messages with deadlines up to the tick less the
-// ones at the tick that go after it. Each row's share is taken off at once, so one division a row is enough.
+// Equation 2: the number of a task's message with its deadline at a tick. It is the sum over the rows of the messages with deadlines up to
+// the tick, but only up to the tick before for a row that goes after the task among equal deadlines: so no row's remainder is needed.
+use crate::count::row_up_to;
 use calendar::Tick;
 use plan::Plan;
-ghost use mathlib.Core.Path.{_≡_};
-ghost use mathlib.Core.Bool.{_&&_};
-ghost use Prim.Native.Nat.{_+_, _≤_};
-ghost use Rattle.common.specs.Totals.{only};
-ghost use Rattle.model.specs.Model.{Queue, count, hasDeadline, precedes};
+ghost use Rattle.common.specs.Words.{_≡_, cond, _-_, _≤_};
+ghost use Rattle.model.specs.Model.{Queue, precedes};
 ghost use Rattle.plan.specs.Limits.{lastTick};
 ghost use Rattle.counting.specs.Columns.{columnsAt, Lent, numberDue};
 
@@ -17,33 +15,18 @@ fn precedes(task: usize, row: usize) -> bool
     task < row
 }
 
-// A sender's jobs with deadlines up to a tick; one at the tick itself is left out where it goes after the task's.
-fn share(after: bool, period: u64, deadline: u64, at: Tick) -> u64
-    requires { ⌜ (1 ≤ period) × (1 ≤ deadline) ⌝ }
-    ensures { λ r. ⌜ r + only (hasDeadline period deadline (at .0)) (only after 1) ≡ count period deadline (at .0) ⌝ }
+// One tick earlier; tick 0 stays, where no message is due.
+fn tick_before(at: Tick) -> Tick
+    ensures { λ r. ⌜ r .0 ≡ at .0 - 1 ⌝ }
 {
-    if at.0 < deadline {
-        return 0;
-    }
-    let passed = at.0 - deadline;
-    let jobs = passed / period;
-    if after {
-        if jobs * period == passed {
-            return jobs;
-        }
-    }
-    jobs + 1
+    if at.0 == 0 { at } else { Tick(at.0 - 1) }
 }
 
-fn row_share(on: bool, after: bool, period: u64, deadline: u64, at: Tick) -> u64
-    requires { ⌜ (1 ≤ period) × (1 ≤ deadline) ⌝ }
-    ensures { λ r. ⌜ r + only (on && hasDeadline period deadline (at .0)) (only after 1) ≡ only on (count period deadline (at .0)) ⌝ }
+// Up to which tick a row's messages count for the number of the task's at a tick, by whether the row goes after it.
+fn last_counted(after: bool, before: Tick, at: Tick) -> Tick
+    ensures { λ r. ⌜ r .0 ≡ cond after (before .0) (at .0) ⌝ }
 {
-    if on {
-        share(after, period, deadline, at)
-    } else {
-        0
-    }
+    if after { before } else { at }
 }
 
 pub fn number_due<'a>(
@@ -59,10 +42,11 @@ pub fn number_due<'a>(
     ensures { λ r. ⌜ r ≡ numberDue (columnsAt (now (sends .entry)) (now (period .entry)) (now (deadline .entry)) tasks queue) (at .0) task ⌝ }
 {
     let base = queue * Plan::TASKS;
+    let before = tick_before(at);
     let mut sum: u64 = 0;
     for i in 0..tasks {
-        let after = precedes(task, i);
-        sum += row_share(sends[base + i], after, period[i], deadline[i], at);
+        let until = last_counted(precedes(task, i), before, at);
+        sum += row_up_to(sends[base + i], period[i], deadline[i], until);
     }
     sum
 }

@@ -4,11 +4,8 @@ use crate::count::up_to;
 use crate::number::number_due;
 use calendar::Number;
 use calendar::Tick;
-use calendar::has_deadline;
 use plan::Plan;
-ghost use mathlib.Core.Path.{_≡_};
-ghost use mathlib.Core.Bool.{not, _&&_};
-ghost use Prim.Native.Nat.{_<_, _≤_};
+ghost use Rattle.common.specs.Words.{_≡_, not, _&&_, _<_, _≤_};
 ghost use Rattle.common.specs.Rows.{firstBad};
 ghost use Rattle.model.specs.Model.{upTo, hasDeadline, tickOf, sentBy};
 ghost use Rattle.calendar.specs.Calendar.{tick};
@@ -50,7 +47,7 @@ fn due(on: bool, period: u64, deadline: u64, at: Tick) -> bool
     ensures { λ r. ⌜ r ≡ (on && hasDeadline period deadline (at .0)) ⌝ }
 {
     if on {
-        has_deadline(period, deadline, at)
+        calendar::has_deadline(period, deadline, at)
     } else {
         false
     }

@@ -1,18 +1,13 @@
 -- "The program reads lines of lower-case hexadecimal": which lines hold bytes, the bytes that they hold, and bytes as digits.
 -- A line is any list of bytes, without its line feed.
-use Prim.Native.Nat.{ℕ, _+_, _-_, _*_, _/_, _%_}
-use mathlib.Core.Bool.{Bool, cond, _&&_}
-use mathlib.Core.List.{List, [], _∷_}
-use lib.Dec.{leb, ltb, eqb}
-use lib.ListN.{length, getD}
-use lib.Seq.{sets}
+use Rattle.common.specs.Words.{ℕ, _+_, _-_, _*_, _/_, _%_, Bool, cond, _&&_, List, [], _∷_, leb, ltb, eqb, length, getD, sets}
 use Rattle.common.specs.Rows.{every, firstBad}
 use Rattle.common.specs.Table.{table}
 use Rattle.digits.specs.declared.hex.Decoded.{Decoded}
 
--- a lower-case digit's value, 16 for any other byte
+-- a lower-case digit's value; for any other byte 256, which no two digits reach
 abbrev pub noDigit : ℕ
-noDigit = 16
+noDigit = 256
 
 unfoldable pub digit : ℕ → ℕ
 digit c =

@@ -1,15 +1,7 @@
 -- Laws of digits: a line of whole pairs, the buffer after decoding, and how many digits bytes take.
-use Prim.Native.Nat.{ℕ, zero, suc, _+_, _*_, _/_, _%_, _<_, _≤_}
-use native.Mathlib.Omega.{arith}
-use native.Mathlib.Numerals.{add-one}
-use mathlib.Core.Bool.{Bool, true, false, cond, _&&_}
-use mathlib.Core.List.{List, [], _∷_, _++_}
-use mathlib.Core.Logic.{⊎-elim, inl, inr, _⊎_}
-use mathlib.Core.Path.{_≡_, refl, sym, ap, subst, _∙_}
-use lib.Dec.{leb, ltb}
-use lib.ListN.{length, getD, take, set}
-use lib.Seq.{sets, length-sets, length-take-le, take-suc}
-use borrow.Author.Tests.{lt-ltb, le-ltb, le-leb, lt-leb, eq-eqb, ne-eqb, leb-true, eqb-true}
+use Rattle.common.specs.Words.{ℕ, zero, suc, _+_, _*_, _/_, _%_, _^_, _<_, _≤_, arith, add-one, Bool, true, false, cond, _&&_, List, [], _∷_, _++_}
+use Rattle.common.specs.Words.{⊎-elim, inl, inr, _⊎_, _≡_, refl, sym, ap, subst, _∙_, leb, length, getD, take, set, sets, length-sets}
+use Rattle.common.specs.Words.{length-take-le, take-suc, lt-ltb, le-ltb, le-leb, lt-leb, eq-eqb, ne-eqb, leb-true, eqb-true}
 use Rattle.common.specs.Tests.{lt-or-le, having, and-left, and-right}
 use Rattle.common.specs.Rows.{every, firstBad, firstBad-found, every-fails, every-firstBad}
 use Rattle.common.specs.Table.{table, table-length}
@@ -52,16 +44,17 @@ line-by-pairs line l e =
 
 -- ## A digit's value by two wrapped differences, as the code reckons it: from '0', and from 'a'
 
-pub digit-decimal : (c d : ℕ) → (d + 0x30) % 256 ≡ c → d < 10 → d ≡ digit c
+pub digit-decimal : (c d : ℕ) → (d + 0x30) % 2 ^ 32 ≡ c → d < 10 → d ≡ digit c
 unfolding digit
 digit-decimal c d e h = rw (le-ltb c 0x30 (omega arith), le-leb c 0x39 (omega arith)) (omega arith)
 
-pub digit-letter : (c l : ℕ) → (l + 0x61) % 256 ≡ c → l < 6 → l + 10 ≡ digit c
+pub digit-letter : (c l : ℕ) → (l + 0x61) % 2 ^ 32 ≡ c → l < 6 → l + 10 ≡ digit c
 unfolding digit
 digit-letter c l e h =
     rw (le-ltb c 0x30 (omega arith), lt-leb c 0x39 (omega arith), le-ltb c 0x61 (omega arith), le-leb c 0x66 (omega arith)) (omega arith)
 
-pub digit-none : (c d l : ℕ) → (d + 0x30) % 256 ≡ c → (l + 0x61) % 256 ≡ c → 10 ≤ d → d < 256 → 6 ≤ l → l < 256 → noDigit ≡ digit c
+pub digit-none :
+    (c d l : ℕ) → (d + 0x30) % 2 ^ 32 ≡ c → (l + 0x61) % 2 ^ 32 ≡ c → 10 ≤ d → d < 2 ^ 32 → 6 ≤ l → l < 2 ^ 32 → noDigit ≡ digit c
 unfolding digit
 digit-none c d l e f g h i j = go (lt-or-le c 0x30) (lt-or-le c 0x61)
   where
@@ -70,13 +63,20 @@ digit-none c d l e f g h i j = go (lt-or-le c 0x30) (lt-or-le c 0x61)
     go (inr x) (inl y) = rw (le-ltb c 0x30 x, lt-leb c 0x39 (omega arith), lt-ltb c 0x61 y)
     go (inr x) (inr y) = rw (le-ltb c 0x30 x, lt-leb c 0x39 (omega arith), le-ltb c 0x61 y, lt-leb c 0x66 (omega arith))
 
--- ## The byte of two digits, as the code reckons it: 256 where one of them is none
+-- a digit's value is below 16
+pub digit-or-none : (c : ℕ) → (digit c < 16) ⊎ (digit c ≡ noDigit)
+unfolding digit
+digit-or-none c = go (lt-or-le c 0x30) (lt-or-le 0x39 c) (lt-or-le c 0x61) (lt-or-le 0x66 c)
+  where
+    go : (c < 0x30) ⊎ (0x30 ≤ c) → (0x39 < c) ⊎ (c ≤ 0x39) → (c < 0x61) ⊎ (0x61 ≤ c) → (0x66 < c) ⊎ (c ≤ 0x66) → (digit c < 16) ⊎ (digit c ≡ noDigit)
+    go (inl w) x y z = inr (rw (lt-ltb c 0x30 w))
+    go (inr w) (inr x) y z = inl (rw (le-ltb c 0x30 w, le-leb c 0x39 x) (omega arith))
+    go (inr w) (inl x) (inl y) z = inr (rw (le-ltb c 0x30 w, lt-leb c 0x39 x, lt-ltb c 0x61 y))
+    go (inr w) (inl x) (inr y) (inl z) = inr (rw (le-ltb c 0x30 w, lt-leb c 0x39 x, le-ltb c 0x61 y, lt-leb c 0x66 z))
+    go (inr w) (inl x) (inr y) (inr z) = inl (rw (le-ltb c 0x30 w, lt-leb c 0x39 x, le-ltb c 0x61 y, le-leb c 0x66 z) (omega arith))
 
-abbrev pub noByte : ℕ
-noByte = 256
-
-unfoldable pub joined : ℕ → ℕ → ℕ
-joined high low = cond (ltb 15 (digit high)) noByte (cond (ltb 15 (digit low)) noByte (digit high * 16 + digit low))
+pub digit-most : (c : ℕ) → digit c ≤ noDigit
+digit-most c = ⊎-elim (λ h. omega arith) (λ e. omega (arith, e)) (digit-or-none c)
 
 -- ## One byte more in the buffer, and one byte more as digits
 
@@ -106,7 +106,7 @@ digits-more bytes l at k h =
 
 -- ## Decoding
 
--- two digits, or not: what the code's number says of a pair
+-- two digits, or not: what the number of a pair says
 module _ (line : List ℕ) (k : ℕ) where
   abbrev a : ℕ
   a = digit (getD line (2 * k) 0)
@@ -114,26 +114,25 @@ module _ (line : List ℕ) (k : ℕ) where
   abbrev b : ℕ
   b = digit (getD line (2 * k + 1) 0)
 
-  Told : ℕ → Type 0
-  Told n = ((n < noByte) × (pairAt line k ≡ true) × (n ≡ byteAt line k)) ⊎ ((noByte ≤ n) × (pairAt line k ≡ false))
+  Told : Type 0
+  Told = ((byteAt line k < 256) × (pairAt line k ≡ true)) ⊎ ((256 ≤ byteAt line k) × (pairAt line k ≡ false))
 
-  told : Told (joined (getD line (2 * k) 0) (getD line (2 * k + 1) 0))
-  unfolding joined Told
-  told = go (lt-or-le 15 a) (lt-or-le 15 b)
+  told : Told
+  unfolding Told
+  told = go (digit-or-none (getD line (2 * k) 0)) (digit-or-none (getD line (2 * k + 1) 0))
     where
-      go : (15 < a) ⊎ (a ≤ 15) → (15 < b) ⊎ (b ≤ 15) → Told (cond (ltb 15 a) noByte (cond (ltb 15 b) noByte (a * 16 + b)))
-      go (inl h) g = rw (lt-ltb 15 a h, le-ltb a noDigit h) (inr (omega arith, refl))
-      go (inr h) (inl g) = rw (le-ltb 15 a h, lt-ltb 15 b g, lt-ltb a noDigit (omega arith), le-ltb b noDigit g) (inr (omega arith, refl))
-      go (inr h) (inr g) = rw (le-ltb 15 a h, le-ltb 15 b g, lt-ltb a noDigit (omega arith), lt-ltb b noDigit (omega arith)) (inl (omega arith, refl, refl))
+      go : (a < 16) ⊎ (a ≡ noDigit) → (b < 16) ⊎ (b ≡ noDigit) → Told
+      go (inr h) g = inr (omega (arith, h), rw (le-ltb a noDigit (omega (arith, h))))
+      go (inl h) (inr g) = inr (omega (arith, g), rw (lt-ltb a noDigit (omega arith), le-ltb b noDigit (omega (arith, g))))
+      go (inl h) (inl g) = inl (omega arith, rw (lt-ltb a noDigit (omega arith), lt-ltb b noDigit (omega arith)))
 
-  pub joined-byte : joined (getD line (2 * k) 0) (getD line (2 * k + 1) 0) < noByte →
-      (pairAt line k ≡ true) × (joined (getD line (2 * k) 0) (getD line (2 * k + 1) 0) ≡ byteAt line k)
+  pub pair-byte : byteAt line k < 256 → pairAt line k ≡ true
   unfolding Told
-  joined-byte h = ⊎-elim (λ x. (x .1, x .2)) (λ x. absurd (omega (arith, x .0))) told
+  pair-byte h = ⊎-elim (λ x. x .1) (λ x. absurd (omega (arith, x .0))) told
 
-  pub joined-none : noByte ≤ joined (getD line (2 * k) 0) (getD line (2 * k + 1) 0) → pairAt line k ≡ false
+  pub pair-none : 256 ≤ byteAt line k → pairAt line k ≡ false
   unfolding Told
-  joined-none h = ⊎-elim (λ x. absurd (omega (arith, x .0))) (λ x. x .1) told
+  pair-none h = ⊎-elim (λ x. absurd (omega (arith, x .0))) (λ x. x .1) told
 
 module _ (line buffer : List ℕ) where
   -- what decoding comes to, line by line of the code

@@ -1,12 +1,7 @@
 -- Laws of numbers in bytes, over their width: what a loop adds in one turn, bounds, and that what was written is read back.
-use Prim.Native.Nat.{ℕ, zero, suc, _+_, _-_, _*_, _/_, _%_, _^_, _<_, _≤_}
-use native.Mathlib.Omega.{arith}
-use native.Mathlib.Numerals.{add-one}
-use native.Mathlib.Nat.{div-add-mod', div-lt-iff-lt-mul, pow-suc, pow-le-pow-right}
-use mathlib.Core.List.{List, [], _∷_, _++_}
-use mathlib.Core.Path.{_≡_, refl, sym, ap, _∙_}
-use lib.ListN.{length, getD, set, length-append, List·getD-append}
-use lib.Seq.{sets, set-comm, getD-at}
+use Rattle.common.specs.Words.{ℕ, zero, suc, _+_, _-_, _*_, _/_, _%_, _^_, _<_, _≤_, arith, add-one, div-add-mod', div-lt-iff-lt-mul, pow-suc}
+use Rattle.common.specs.Words.{pow-le-pow-right, List, [], _∷_, _++_, _≡_, refl, sym, ap, _∙_, length, getD, set, length-append, List·getD-append}
+use Rattle.common.specs.Words.{sets, set-comm, getD-at}
 use Rattle.common.specs.Stores.{sets-append}
 use Rattle.digits.specs.Hex.{digits}
 use Rattle.digits.specs.HexLaws.{digits-append, digits-length}

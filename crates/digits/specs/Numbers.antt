@@ -1,7 +1,5 @@
 -- "numbers high byte first": the number that so many bytes make, and a number in so many bytes. Both go by the number's width in bytes.
-use Prim.Native.Nat.{ℕ, zero, suc, _+_, _*_, _/_, _%_}
-use mathlib.Core.List.{List, [], _∷_, _++_}
-use lib.ListN.{getD}
+use Rattle.common.specs.Words.{ℕ, zero, suc, _+_, _*_, _/_, _%_, List, [], _∷_, _++_, getD}
 
 -- the number of the `width` bytes from index `at` on
 unfoldable pub valueAt : List ℕ → ℕ → ℕ → ℕ

@@ -1,11 +1,6 @@
 // Lower-case hexadecimal: the digits of a line as bytes, and bytes as digits.
-ghost use mathlib.Core.Path.{_≡_};
-ghost use mathlib.Core.List.{[], _∷_};
-ghost use Prim.Native.Nat.{_+_, _*_, _≤_, _<_};
-ghost use lib.ListN.{length};
-ghost use lib.Seq.{sets};
+ghost use Rattle.common.specs.Words.{_≡_, [], _∷_, _+_, _*_, _≤_, _<_, length, sets};
 ghost use Rattle.digits.specs.Hex.{digit, mostBytes, decodedOf, decodedInto, letter, digits};
-ghost use Rattle.digits.specs.HexLaws.{joined};
 
 // The longest line that is a frame, and the bytes that it holds.
 const LONGEST: usize = 100;
@@ -18,29 +13,23 @@ pub enum Decoded {
     Bad,
 }
 
-// A digit's value, 16 for any other byte. Both guesses are reckoned before one is chosen, so that no branch hangs on the digit.
-fn value_of(c: u8) -> u8
+// A digit's value, 256 for any other byte. Both guesses are reckoned before one is chosen, so that no branch hangs on the digit, and in
+// 32 bits, which want no cutting back to a byte.
+fn value_of(c: u8) -> u32
     ensures { λ r. ⌜ r ≡ digit c ⌝ }
 {
-    let decimal = std::num::wrapping_sub_u8(c, b'0');
-    let letter = std::num::wrapping_sub_u8(c, b'a');
-    let other = if letter < 6 { letter + 10 } else { 16 };
+    let wide = c as u32;
+    let decimal = std::num::wrapping_sub_u32(wide, b'0' as u32);
+    let letter = std::num::wrapping_sub_u32(wide, b'a' as u32);
+    let other = if letter < 6 { letter + 10 } else { 256 };
     if decimal < 10 { decimal } else { other }
 }
 
-// The byte of two digits, 256 where one of them is none.
-fn byte_of(high: u8, low: u8) -> u16
-    ensures { λ r. ⌜ r ≡ joined high low ⌝ }
+// The byte of two digits, 256 or more where one of them is none: one test tells.
+fn byte_of(high: u8, low: u8) -> u32
+    ensures { λ r. ⌜ r ≡ digit high * 16 + digit low ⌝ }
 {
-    let a = value_of(high);
-    let b = value_of(low);
-    if 15 < a {
-        return 256;
-    }
-    if 15 < b {
-        return 256;
-    }
-    (a as u16) * 16 + (b as u16)
+    value_of(high) * 16 + value_of(low)
 }
 
 // The bytes of a line, from the buffer's start on.

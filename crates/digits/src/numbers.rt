@@ -1,9 +1,6 @@
 // Numbers in bytes, high byte first, of any width up to six bytes.
 use crate::hex::put_byte;
-ghost use mathlib.Core.Path.{_≡_};
-ghost use Prim.Native.Nat.{_+_, _-_, _*_, _%_, _^_, _≤_, _<_};
-ghost use lib.ListN.{length};
-ghost use lib.Seq.{sets};
+ghost use Rattle.common.specs.Words.{_≡_, _+_, _-_, _*_, _%_, _^_, _≤_, _<_, length, sets};
 ghost use Rattle.digits.specs.Hex.{digits};
 ghost use Rattle.digits.specs.Numbers.{valueAt, inBytes};
 ghost use Rattle.digits.specs.NumberLaws.{widest};

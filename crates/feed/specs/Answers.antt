@@ -1,7 +1,5 @@
 -- Answering lines one after another. The desk and the memory together are the world that a line is answered in and changes.
-use Prim.Native.Nat.{ℕ}
-use mathlib.Core.List.{List, [], _∷_, _++_, append-assoc}
-use mathlib.Core.Path.{_≡_, refl, sym, ap, _∙_}
+use Rattle.common.specs.Words.{ℕ, List, [], _∷_, _++_, append-assoc, _≡_, refl, sym, ap, _∙_}
 use Rattle.console.specs.declared.Desk.{Desk}
 use Rattle.console.specs.Desk.{lineTurn}
 

@@ -1,9 +1,5 @@
 -- Feeding a block: the lines that end in it are answered one after another, until the block is used up or the room for answers is short.
-use Prim.Native.Nat.{ℕ, _+_, _-_}
-use mathlib.Core.Bool.{cond}
-use mathlib.Core.List.{List, [], _∷_, _++_}
-use lib.Dec.{eqb, ltb}
-use lib.ListN.{length}
+use Rattle.common.specs.Words.{ℕ, _+_, _-_, cond, List, [], _∷_, _++_, eqb, ltb, length}
 use Rattle.frames.specs.Answers.{longestAnswer}
 use Rattle.lines.specs.Lines.{lineFeed, cut}
 use Rattle.feed.specs.Answers.{World, next, reply}

@@ -1,9 +1,5 @@
 -- The end of the input: a last line without its end is answered where at least one byte of it came.
-use Prim.Native.Nat.{ℕ, _<_}
-use native.Mathlib.Omega.{arith}
-use mathlib.Core.List.{List, [], _∷_, append-nil}
-use mathlib.Core.Path.{_≡_, refl}
-use lib.ListN.{length}
+use Rattle.common.specs.Words.{ℕ, _<_, arith, List, [], _∷_, append-nil, _≡_, refl, length}
 use Rattle.console.specs.declared.Desk.{Desk}
 use Rattle.console.specs.Desk.{Turn, silent, lineTurn}
 use Rattle.lines.specs.Lines.{ended}

@@ -1,11 +1,6 @@
 -- Feeding line by line, as the code goes; and what feeding means: the lines of the part that was used are answered one after another.
-use Prim.Native.Nat.{ℕ, suc, _+_, _-_, _<_, _≤_}
-use native.Mathlib.Omega.{arith}
-use mathlib.Core.Bool.{Bool, true, false}
-use mathlib.Core.List.{List, [], _∷_, _++_, append-assoc, append-nil}
-use mathlib.Core.Path.{_≡_, refl, ap, _∙_}
-use lib.Dec.{eqb}
-use lib.ListN.{length, take, drop}
+use Rattle.common.specs.Words.{ℕ, suc, _+_, _-_, _<_, _≤_, arith, Bool, true, false, List, [], _∷_, _++_, append-assoc, append-nil, _≡_, refl, ap}
+use Rattle.common.specs.Words.{_∙_, eqb, length, take, drop}
 use Rattle.lines.specs.Lines.{lineFeed, cut}
 use Rattle.lines.specs.Whole.{cut-short, cut-length}
 use Rattle.lines.specs.Ends.{run, carry-more}

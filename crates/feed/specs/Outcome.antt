@@ -1,9 +1,5 @@
 -- What a call of `feed` leaves: the result, and the three buffers, from the one definition of feeding.
-use Prim.Native.Nat.{ℕ, _+_, _≤_}
-use mathlib.Core.List.{List}
-use mathlib.Core.Path.{_≡_}
-use lib.ListN.{length, take, drop}
-use lib.Seq.{sets}
+use Rattle.common.specs.Words.{ℕ, _+_, _≤_, List, _≡_, length, take, drop, sets}
 use Rattle.console.specs.declared.Desk.{Desk}
 use Rattle.lines.specs.Lines.{kept}
 use Rattle.feed.specs.Answers.{World}

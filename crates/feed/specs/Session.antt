@@ -1,13 +1,7 @@
 -- What feeding means: the lines of the text that was used are answered one after another, in whatever blocks the text came and however
 -- often the room for answers ran short.
-use Prim.Native.Nat.{ℕ, suc, _+_, _-_, _<_, _≤_}
-use native.Mathlib.Omega.{arith}
-use mathlib.Core.Bool.{Bool, true, false}
-use mathlib.Core.List.{List, [], _∷_, _++_, map, append-nil}
-use mathlib.Core.Path.{_≡_, refl, sym, ap, _∙_}
-use lib.Dec.{eqb, ltb}
-use lib.ListN.{length, take, drop, length-append, length-drop}
-use borrow.Author.Tests.{le-ltb, ltb-true}
+use Rattle.common.specs.Words.{ℕ, suc, _+_, _-_, _<_, _≤_, arith, Bool, true, false, List, [], _∷_, _++_, map, append-nil, _≡_, refl, sym, ap, _∙_}
+use Rattle.common.specs.Words.{eqb, ltb, length, take, drop, length-append, length-drop, le-ltb, ltb-true}
 use Rattle.console.specs.Desk.{Turn}
 use Rattle.lines.specs.Lines.{lineFeed, cut, fed, ended}
 use Rattle.lines.specs.Blocks.{fed-append}

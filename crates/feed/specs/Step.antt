@@ -1,18 +1,13 @@
 -- A step of the console on a part of the output buffer: with room enough the answer is written whole, at the part's start.
-use Prim.Native.Nat.{ℕ, _+_, _-_, _≤_}
-use native.Mathlib.Omega.{arith}
-use mathlib.Core.List.{List, _++_, append-assoc, append-nil}
-use mathlib.Core.Path.{_≡_, ap}
-use lib.ListN.{length, take, drop, length-drop, drop-of-length-le}
-use lib.Seq.{sets, sets-eq, length-take-le, take-all, drop-drop}
-use borrow.Author.Tests.{le-ltb}
+use Rattle.common.specs.Words.{ℕ, _+_, _-_, _≤_, arith, List, _++_, append-assoc, append-nil, _≡_, ap, length, take, drop, length-drop}
+use Rattle.common.specs.Words.{drop-of-length-le, sets, sets-eq, take-all, drop-drop, le-ltb}
 use borrow.Rule.Slice.PartMut.{midOf, putMid}
 use Rattle.console.specs.declared.Desk.{Desk}
 use Rattle.console.specs.declared.Stepped.{Stepped}
 use Rattle.console.specs.Desk.{lineTurn, stepOf, Takes}
 use Rattle.lines.specs.Lines.{kept, cut}
 use Rattle.feed.specs.Feed.{enough}
-use Rattle.console.specs.Fits.{line-taken}
+use Rattle.console.specs.LongLines.{line-taken}
 
 -- a line that is cut is answered as the whole line is
 pub line-cut : (d : Desk) (m line : List ℕ) → lineTurn d m (cut line) ≡ lineTurn d m line
@@ -25,10 +20,13 @@ pub step-takes :
 unfolding stepOf
 step-takes d m line out h t = rw (le-ltb (length out) enough h) at t
 
--- ## A part of the output buffer
+-- ## A part of a buffer, from a place to the end
+
+pub part-rest : (xs : List ℕ) (i : ℕ) → take (length xs - i) (drop i xs) ≡ drop i xs
+part-rest xs i = take-all (length xs - i) (drop i xs) (omega (arith, length-drop i xs))
 
 pub room-of : (out : List ℕ) (w : ℕ) → length (midOf w (length out - w) out) ≡ length out - w
-room-of out w = length-take-le (length out - w) (drop w out) (omega (arith, length-drop w out))
+room-of out w = rw (part-rest out w) (length-drop w out)
 
 -- what is stored at the start of a part is stored in the whole, at the part's place
 pub put-sets :
@@ -38,7 +36,7 @@ put-sets out xs w h =
     let n : length (drop w out) ≡ length out - w = length-drop w out in
     let m : 0 + length xs ≡ length xs = omega arith in
     rw (
-      take-all (length out - w) (drop w out) (omega arith),
+      part-rest out w,
       drop-of-length-le (drop w out) {i = length out - w} (omega arith),
       append-nil (sets (drop w out) 0 xs),
       sets-eq xs (drop w out) 0 (omega arith),

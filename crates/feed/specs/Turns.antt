@@ -1,12 +1,7 @@
 -- The turns of the code's loop: what is done, and what is left to be done, make the whole.
-use Prim.Native.Nat.{ℕ, suc, _+_, _-_, _<_, _≤_}
-use native.Mathlib.Omega.{arith}
-use native.Mathlib.Nat.{zero-add}
-use mathlib.Core.List.{List, [], _++_, append-nil}
-use mathlib.Core.Path.{_≡_, refl, sym, ap, _∙_}
-use lib.ListN.{length, take, drop, length-take, length-drop, length-append}
-use lib.Seq.{sets, length-sets, sets-eq, length-take-le, take-at, drop-drop}
-use borrow.Author.Tests.{lt-ltb, le-ltb}
+use Rattle.common.specs.Words.{ℕ, suc, _+_, _-_, _<_, _≤_, arith, zero-add, List, [], _++_, append-nil, _≡_, refl, sym, ap, _∙_, length, take, drop}
+use Rattle.common.specs.Words.{length-take, length-drop, length-append, sets, length-sets, sets-eq, length-take-le, take-at, drop-drop, lt-ltb}
+use Rattle.common.specs.Words.{le-ltb}
 use borrow.Rule.Slice.PartMut.{midOf, putMid}
 use Rattle.common.specs.Stores.{part, sets-append}
 use Rattle.console.specs.declared.Desk.{Desk}
@@ -79,6 +74,14 @@ underway-first piece from memory held out d u a b h k =
       sound = k;
       left = rw (e, g, zero-add (z .taken));
     }
+
+-- a turn as the code takes it, on the bytes of a line: the step, the memory after it, and what it leaves of the rest of the output buffer
+pub record Turned (d : Desk) (memory bytes out : List ℕ) (w : ℕ) : Type 0 where
+  pub result : Stepped
+  pub memory′ : List ℕ
+  pub after : List ℕ
+  pub same-size : length memory′ ≡ length memory
+  pub takes : Takes (bytesTurn d memory bytes) (midOf w (length out - w) out) result memory′ after
 
 -- with room and a line end, feeding goes on with the line
 going-on :
@@ -176,20 +179,16 @@ module _ {f : Feeding} {piece : List ℕ} {from : ℕ} {held₀ out₀ memory he
             (omega (arith, length-sets out w xs));
       }
 
-  -- as the code takes the turn: on the line's bytes, with the rest of the output buffer
-  module _ (line bytes held′ memory′ after : List ℕ) (r : Stepped) (room : enough ≤ length out - w) (framed : bytes ≡ framedBytes line)
-      (turn : Takes (bytesTurn d memory bytes) (midOf w (length out - w) out) r memory′ after) where
-    takes : Takes (lineTurn d memory line) (midOf w (length out - w) out) r memory′ after
-    takes = rw (line-framed d memory line, ← framed) turn
-
-    pub written-little : r .written ≤ enough
-    written-little = omega (arith, answer-fits d memory line, ap (λ (x : Stepped). x .written) (takes .0))
-
-    pub turn-step :
-        (e : ℕ) → e ≡ endOf piece at → e < length piece → line ≡ cut (take u held ++ part piece at (e - at)) → length held′ ≡ length held →
-        Underway f piece from held₀ out₀ memory′ held′ (putMid w (length out - w) out after) (r .desk) 0 (e + 1) (w + r .written)
-    turn-step e a i l h =
-        let xs = reply (worldOf d memory) line in
-        let o : putMid w (length out - w) out after ≡ sets out w xs =
-        ap (putMid w (length out - w) out) (takes .2) ∙ put-sets out xs w (omega (arith, answer-fits d memory line, t .stored .fits)) in
-        rw (takes .0, takes .1, o, a) (turn-line line held′ room (rw a at i) (rw a at l) h (answer-fits d memory line))
+  -- the line is answered as the code does it
+  pub turn-step :
+      {bytes line held′ : List ℕ} (x : Turned d memory bytes out w) (e : ℕ) → enough ≤ length out - w → e ≡ endOf piece at → e < length piece →
+      bytes ≡ framedBytes line → line ≡ cut (take u held ++ part piece at (e - at)) → length held′ ≡ length held →
+      Underway f piece from held₀ out₀ (x .memory′) held′ (putMid w (length out - w) out (x .after)) (x .result .desk) 0 (e + 1)
+      (w + x .result .written)
+  turn-step {line = line} {held′ = held′} x e h a i b l k =
+      let xs = reply (worldOf d memory) line in
+      let s : Takes (lineTurn d memory line) (midOf w (length out - w) out) (x .result) (x .memory′) (x .after) =
+      rw (line-framed d memory line, ← b) (x .takes) in
+      let o : putMid w (length out - w) out (x .after) ≡ sets out w xs =
+      ap (putMid w (length out - w) out) (s .2) ∙ put-sets out xs w (omega (arith, answer-fits d memory line, t .stored .fits)) in
+      rw (s .0, s .1, o, a) (turn-line line held′ h (rw a at i) (rw a at l) k (answer-fits d memory line))

@@ -5,26 +5,14 @@
 // A desk is 2 KB, and by value it is copied at each call: the loop keeps it, and lends and stores what frames 04 and 05 need of it.
 use console::Desk;
 use console::Stepped;
-use console::act;
-use console::bytes_in;
 use console::calls::Spot;
-use console::calls::receive_line;
-use console::calls::send_line;
 use digits::hex::BYTES;
-use frames::answers::write_bad;
 use frames::frame::Frame;
-use frames::frame::frame_of;
-use frames::frame::payload_in;
-use mailbox::receive::reading_of;
-use mailbox::send::last_sent;
 use plan::Plan;
-ghost use mathlib.Core.Path.{_≡_};
-ghost use mathlib.Core.List.{_++_};
-ghost use Prim.Native.Nat.{_-_, _≤_};
-ghost use lib.ListN.{length, take};
+ghost use Rattle.common.specs.Words.{_≡_, _++_, _-_, _≤_, length, take};
 ghost use Rattle.common.specs.Stores.{part};
 ghost use Rattle.digits.specs.Hex.{mostBytes};
-ghost use Rattle.console.specs.Calls.{putEntry, putPlace};
+ghost use Rattle.console.specs.Entries.{putEntry, putPlace};
 ghost use Rattle.console.specs.Desk.{Takes};
 ghost use Rattle.console.specs.Framing.{framedBytes};
 ghost use Rattle.console.specs.Kept.{Kept};
@@ -70,7 +58,7 @@ fn bytes_until(
 {
     let n = lines::join(held, used, piece, at, end);
     let line = lines::line_of(held, n, piece, at, end);
-    bytes_in(line, bytes)
+    console::bytes_in(line, bytes)
 }
 
 // What a send or a receive looks at in the desk.
@@ -134,30 +122,60 @@ pub fn feed(
         }
         let mut bytes = [0; BYTES];
         let n = bytes_until(held, u, piece, at, e, &mut bytes);
-        let frame = frame_of(&bytes[..n]);
+        let frame = frames::frame::frame_of(&bytes[..n]);
         u = 0;
         at = e + 1;
         match frame {
-            Frame::Bad => w += write_bad(&mut out[w..]),
+            Frame::Bad => w += frames::answers::write_bad(&mut out[w..]),
             Frame::Send(queue, task, t) => {
-                let entry = last_sent(&d.state.sent, queue, task);
+                let entry = mailbox::send::last_sent(&d.state.sent, queue, task);
                 let spot = spot_of(d.running, d.state.tick.0, entry);
-                let payload = payload_in(&bytes[..n]);
-                let s = send_line(d.plan, spot, memory, queue, task, t, payload, &mut out[w..]);
+                let payload = frames::frame::payload_in(&bytes[..n]);
+                let s = console::calls::send_line(
+                    &d.plan.sends,
+                    &d.plan.period,
+                    &d.plan.deadline,
+                    &d.plan.receiver,
+                    &d.plan.size,
+                    &d.plan.place,
+                    d.plan.tasks,
+                    d.plan.queues,
+                    spot,
+                    memory,
+                    queue,
+                    task,
+                    t,
+                    payload,
+                    &mut out[w..],
+                );
                 d.state.tick.0 = s.tick;
                 put_entry(&mut d.state.sent, queue, task, s.entry);
                 w += s.written;
             }
             Frame::Receive(queue, t) => {
-                let place = reading_of(&d.state.reading, queue);
+                let place = mailbox::receive::reading_of(&d.state.reading, queue);
                 let spot = spot_of(d.running, d.state.tick.0, place);
-                let s = receive_line(d.plan, spot, memory, queue, t, &mut out[w..]);
+                let s = console::calls::receive_line(
+                    &d.plan.sends,
+                    &d.plan.period,
+                    &d.plan.deadline,
+                    &d.plan.receiver,
+                    &d.plan.size,
+                    &d.plan.place,
+                    d.plan.tasks,
+                    d.plan.queues,
+                    spot,
+                    memory,
+                    queue,
+                    t,
+                    &mut out[w..],
+                );
                 d.state.tick.0 = s.tick;
                 put_place(&mut d.state.reading, queue, s.entry);
                 w += s.written;
             }
             _ => {
-                let s = act(d, memory, &bytes[..n], &mut out[w..]);
+                let s = console::act(d, memory, &bytes[..n], &mut out[w..]);
                 d = s.desk;
                 w += s.written;
             }

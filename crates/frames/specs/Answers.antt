@@ -1,7 +1,5 @@
 -- The lines that the console answers with: each answer's bytes, as lower-case digits with a line feed behind them.
-use Prim.Native.Nat.{ℕ, zero, suc}
-use mathlib.Core.List.{List, [], _∷_, _++_}
-use lib.ListN.{getD}
+use Rattle.common.specs.Words.{ℕ, zero, suc, List, [], _∷_, _++_, getD}
 use Rattle.plan.specs.Refusals.{numberOf}
 use Rattle.plan.specs.declared.refusal.Refusal.{Refusal}
 use Rattle.digits.specs.Hex.{digits}

@@ -1,9 +1,5 @@
 -- The frames that the console reads, "one frame a line, numbers high byte first". A frame is known by its first byte and its length.
-use Prim.Native.Nat.{ℕ}
-use mathlib.Core.Bool.{cond}
-use mathlib.Core.List.{List}
-use lib.Dec.{ltb, eqb}
-use lib.ListN.{length, getD, drop}
+use Rattle.common.specs.Words.{ℕ, cond, List, ltb, eqb, length, getD, drop}
 use Rattle.calendar.specs.Calendar.{tick}
 use Rattle.digits.specs.Numbers.{valueAt}
 use Rattle.frames.specs.declared.frame.Frame.{Frame}

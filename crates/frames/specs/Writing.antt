@@ -1,11 +1,6 @@
 -- Writing a line piece by piece: digits behind digits are the digits of all the bytes, and the line feed ends them.
-use Prim.Native.Nat.{ℕ, zero, suc, _+_, _*_}
-use native.Mathlib.Omega.{arith}
-use native.Mathlib.Numerals.{add-one}
-use mathlib.Core.List.{List, [], _∷_, _++_, append-assoc}
-use mathlib.Core.Path.{_≡_, refl, _∙_}
-use lib.ListN.{length, getD, length-append}
-use lib.Seq.{sets}
+use Rattle.common.specs.Words.{ℕ, zero, suc, _+_, _*_, arith, add-one, List, [], _∷_, _++_, append-assoc, _≡_, refl, _∙_, length, getD}
+use Rattle.common.specs.Words.{length-append, sets}
 use Rattle.common.specs.Stores.{sets-append}
 use Rattle.digits.specs.Hex.{digits}
 use Rattle.digits.specs.HexLaws.{digits-append, digits-length}

@@ -1,16 +1,10 @@
 // The lines that the console writes: each function puts one line at the start of `out` and says how many bytes it wrote.
 use calendar::Number;
 use calendar::Slot;
-use digits::hex::put_bytes;
 use digits::numbers::put_number;
 use plan::Plan;
 use plan::refusal::Refusal;
-use plan::refusal::rule_number;
-ghost use mathlib.Core.Path.{_≡_};
-ghost use mathlib.Core.List.{[], _∷_};
-ghost use Prim.Native.Nat.{_+_, _≤_};
-ghost use lib.ListN.{length};
-ghost use lib.Seq.{sets};
+ghost use Rattle.common.specs.Words.{_≡_, [], _∷_, _+_, _≤_, length, sets};
 ghost use Rattle.plan.specs.Limits.{queueLimit, payloadBytes};
 ghost use Rattle.digits.specs.Hex.{digits};
 ghost use Rattle.frames.specs.Answers.{longestAnswer, eachSize, sizesBytes, storedBytes, messageBytes, gapBytes, emptyBytes, refusalBytes, badBytes};
@@ -48,7 +42,7 @@ pub fn write_refusal(out: &mut [u8], refusal: Refusal) -> usize
 {
     let rule = refusal.rule;
     put_number(out, 0, 1, 0x7f);
-    put_number(out, 2, 1, rule_number(rule) as u64);
+    put_number(out, 2, 1, plan::refusal::rule_number(rule) as u64);
     put_number(out, 4, 1, refusal.row as u64);
     end_line(out, 6)
 }
@@ -79,7 +73,7 @@ pub fn write_message(out: &mut [u8], number: Number, payload: &[u8]) -> usize
 {
     put_number(out, 0, 1, 0x85);
     put_number(out, 2, 6, number.0);
-    put_bytes(out, 14, payload);
+    digits::hex::put_bytes(out, 14, payload);
     end_line(out, 14 + 2 * payload.len())
 }
 

@@ -1,7 +1,7 @@
 // The frames that the console reads: a first byte that says which, and numbers of fixed widths behind it.
 use calendar::Tick;
 use digits::numbers::value_at;
-ghost use mathlib.Core.Path.{_≡_};
+ghost use Rattle.common.specs.Words.{_≡_};
 ghost use Rattle.frames.specs.Frames.{taskIn, queueIn, goIn, sendIn, receiveIn, frameOf, payloadIn};
 
 // The payload of a send is not taken out: `payload_in` shows where it lies.

@@ -1,14 +1,6 @@
 -- A receive, by its answer: what each of the four kinds says of the state and the memory before it.
-use Prim.Native.Nat.{ℕ, zero, suc, _+_, _/_, _≤_, _<_}
-use native.Mathlib.Omega.{arith}
-use native.Mathlib.Nat.{div-mul-le-self}
-use mathlib.Core.Bool.{Bool, true, false}
-use mathlib.Core.List.{List}
-use mathlib.Core.Logic.{_⊎_, inl, inr}
-use mathlib.Core.Path.{_≡_, refl, sym, subst, _∙_}
-use lib.Dec.{eqb}
-use lib.ListN.{length}
-use borrow.Author.Tests.{eqb-true, eqb-false, eq-eqb, le-leb}
+use Rattle.common.specs.Words.{ℕ, zero, suc, _+_, _/_, _≤_, _<_, arith, div-mul-le-self, Bool, true, false, List, _⊎_, inl, inr, _≡_, refl, sym}
+use Rattle.common.specs.Words.{subst, _∙_, eqb, length, eqb-true, eqb-false, eq-eqb, le-leb}
 use Rattle.common.specs.Tests.{lt-or-le}
 use Rattle.calendar.specs.Calendar.{message, slot}
 use Rattle.model.specs.Model.{Valid, Sender, receiverPeriod, deadlineOf, number, first, last, jobFor, outdatedAt, senderOf}
@@ -17,12 +9,10 @@ use Rattle.plan.specs.Limits.{lastTick, payloadBytes, slotBytes}
 use Rattle.plan.specs.Plan.{queueAt}
 use Rattle.plan.specs.Sound.{Sound}
 use Rattle.plan.specs.Refusals.{Line}
-use Rattle.plan.specs.declared.Plan.{Plan}
-use Rattle.plan.specs.declared.refusal.Refusal.{Refusal}
+use Rattle.history.specs.Types.{Plan, Refusal, Received}
 use Rattle.slots.specs.Slots.{slotAt}
 use Rattle.mailbox.specs.Calls.{receiveLines, found, slotFor, receivingJob}
 use Rattle.mailbox.specs.View.{viewOf}
-use Rattle.mailbox.specs.declared.Received.{Received}
 use Rattle.plan.specs.Verdicts.{Passed, Stopped, passed-or-stopped}
 use Rattle.history.specs.History.{Call, World, receiveSays, Sends, accepted, Tells, ofMessage, ofGap}
 use Rattle.history.specs.Steps.{CanReceive, can-receive, next, lastAt, receive-finds, receive-ends, receive-refused, Step, sends, stays}

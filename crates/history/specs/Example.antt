@@ -1,10 +1,6 @@
 -- The theorems speak of something: document 01's Table A is such a plan, a start on it is accepted, and with 8 slots instead of 9 it loses
 -- a message.
-use native.Mathlib.Omega.{arith}
-use mathlib.Core.Bool.{true, false}
-use mathlib.Core.List.{_∷_}
-use mathlib.Core.Path.{_≡_, refl}
-use lib.ListN.{replicate}
+use Rattle.common.specs.Words.{arith, true, false, _∷_, _≡_, refl, replicate}
 use Rattle.common.specs.Totals.{sum, most}
 use Rattle.common.specs.Rows.{every, some, firstBad}
 use Rattle.model.specs.Model.{count, hasDeadline, precedes, upTo, dueAt, followers, number, wantedFor, horizon, outdated, euclid, gcd, lcm, multiple, hyperperiod, need, rowSlots, slotsOver, slots}

@@ -1,10 +1,7 @@
 -- What the proofs need of a plan: that its queues are valid and their slots lie side by side, that each size is fit, and what follows
 -- for slots, cells of the state and numbers. It leans on the model's laws; a plan that planning makes is such a plan (`made-fits`).
-use Prim.Native.Nat.{ℕ, suc, _+_, _-_, _*_, _/_, _%_, _≤_, _<_, _^_}
-use native.Mathlib.Omega.{arith}
-use native.Mathlib.Nat.{mod-lt, mul-le-mul-right, div-add-mod', div-lt-iff-lt-mul, lt-div-mul-add}
-use mathlib.Core.Logic.{⊎-elim}
-use mathlib.Core.Path.{_≡_}
+use Rattle.common.specs.Words.{ℕ, suc, _+_, _-_, _*_, _/_, _%_, _≤_, _<_, _^_, arith, mod-lt, mul-le-mul-right, div-add-mod', div-lt-iff-lt-mul}
+use Rattle.common.specs.Words.{lt-div-mul-add, ⊎-elim, _≡_}
 use Rattle.common.specs.Tests.{lt-or-le}
 use Rattle.model.specs.Model.{Queue, Valid, Sender, Fit, releaseOf, deadlineOf, number, outdatedAt}
 use Rattle.model.specs.Number.{upTo-le, number-below}

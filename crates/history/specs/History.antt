@@ -2,24 +2,14 @@
 -- answered. Every answer, state and memory here is the one that the contracts of start, send, receive and view cite.
 -- A history begins with one accepted start, `Begins p m`, and has none after it. It grows at its end, so a statement over
 -- every history is one over every call of every sequence of calls.
-use Prim.Native.Nat.{ℕ, zero, suc, _-_}
-use mathlib.Core.Bool.{cond, _&&_}
-use mathlib.Core.List.{List, [], _∷_, _++_}
-use mathlib.Core.Logic.{_⊎_}
-use mathlib.Core.Path.{_≡_}
-use lib.Dec.{eqb}
+use Rattle.common.specs.Words.{ℕ, zero, suc, _-_, cond, _&&_, List, [], _∷_, _++_, _⊎_, _≡_, eqb}
 use Rattle.calendar.specs.Calendar.{message, slot}
-use Rattle.calendar.specs.declared.Slot.{Slot}
+use Rattle.history.specs.Types.{Slot, Plan, State, Started, Sent, Received}
 use Rattle.model.specs.Model.{Queue, first, last, senderOf}
 use Rattle.plan.specs.Limits.{lastTick}
 use Rattle.plan.specs.Plan.{queueAt}
-use Rattle.plan.specs.declared.Plan.{Plan}
 use Rattle.mailbox.specs.Calls.{fresh, startAnswer, startMemory, sendAnswer, sendState, sendMemory, look, receiveState, receivingJob, slotFor}
 use Rattle.mailbox.specs.View.{viewOf}
-use Rattle.mailbox.specs.declared.State.{State}
-use Rattle.mailbox.specs.declared.Started.{Started}
-use Rattle.mailbox.specs.declared.Sent.{Sent}
-use Rattle.mailbox.specs.declared.Received.{Received}
 
 -- ## Calls
 

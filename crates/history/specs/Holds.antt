@@ -1,24 +1,14 @@
 -- After every history the invariant holds of every queue: from the start, which clears the slots, over each call.
-use Prim.Native.Nat.{ℕ, _*_, _≤_, _<_}
-use native.Mathlib.Omega.{arith}
-use native.Mathlib.Nat.{le-refl}
-use native.Mathlib.Decide.{ℕ-discrete}
-use mathlib.Core.Bool.{Bool, true, false, true≢false}
-use mathlib.Core.List.{List}
-use mathlib.Core.Logic.{_⊎_, inl, inr}
-use mathlib.Core.Path.{_≡_, refl, sym, ap, subst, _∙_}
-use lib.ListN.{length, drop, length-replicate}
-use borrow.Author.Tests.{ltb-false, not-false}
+use Rattle.common.specs.Words.{ℕ, _*_, _≤_, _<_, arith, le-refl, ℕ-discrete, Bool, true, false, true≢false, List, _⊎_, inl, inr, _≡_, refl, sym, ap}
+use Rattle.common.specs.Words.{subst, _∙_, length, drop, length-replicate, ltb-false, not-false}
 use Rattle.plan.specs.Limits.{queueLimit, cellLimit, payloadBytes, slotBytes}
 use Rattle.plan.specs.Plan.{slotsOf}
 use Rattle.plan.specs.Rules.{soundPlan}
 use Rattle.plan.specs.Sound.{Sound}
-use Rattle.plan.specs.declared.Plan.{Plan}
-use Rattle.plan.specs.declared.refusal.Refusal.{Refusal}
+use Rattle.history.specs.Types.{Plan, Refusal, Started}
 use Rattle.slots.specs.Slots.{cleared}
 use Rattle.slots.specs.SlotLaws.{length-cleared, number-cleared, behind-stored, behind-cleared}
 use Rattle.mailbox.specs.Calls.{startLines, startAnswer, startMemory, slotFor}
-use Rattle.mailbox.specs.declared.Started.{Started}
 use Rattle.plan.specs.Verdicts.{Passed, Stopped, passed-good, stopped-refused, passed-or-stopped}
 use Rattle.history.specs.History.{Call, send, World, History, start, _then_, Begins, begun, world, Sends, SentIn}
 use Rattle.history.specs.Steps.{CanSend, Step, sends, finds, ends, stays, step, sentWorld, numberAt}

@@ -1,14 +1,7 @@
 -- What holds of each queue after every history: whatever was sent has in its slot itself or a higher number, and what a slot holds was sent.
 -- It leans on the view of one call (Steps), on the laws of slots, and on fit sizes.
-use Prim.Native.Nat.{ℕ, _+_, _*_, _%_, _≤_, _<_}
-use native.Mathlib.Omega.{arith}
-use native.Mathlib.Nat.{le-refl, div-mul-le-self}
-use native.Mathlib.Decide.{ℕ-discrete}
-use mathlib.Core.List.{List}
-use mathlib.Core.Logic.{_⊎_, inl, inr, ⊎-elim}
-use mathlib.Core.Path.{_≡_, refl, sym, ap, subst, _∙_}
-use lib.ListN.{length, getD, length-set}
-use lib.Seq.{getD-set-same, getD-set-other}
+use Rattle.common.specs.Words.{ℕ, _+_, _*_, _%_, _≤_, _<_, arith, le-refl, div-mul-le-self, ℕ-discrete, List, _⊎_, inl, inr, ⊎-elim, _≡_, refl, sym}
+use Rattle.common.specs.Words.{ap, subst, _∙_, length, getD, length-set, getD-set-same, getD-set-other}
 use Rattle.common.specs.Tests.{lt-or-le, having}
 use Rattle.model.specs.Model.{Queue, Valid, Sender, Fit, releaseOf, deadlineOf, number, outdatedAt}
 use Rattle.model.specs.Order.{deadline-positive}
@@ -17,11 +10,10 @@ use Rattle.model.specs.Outdating.{outdated-iff, horizon-back}
 use Rattle.plan.specs.Limits.{taskLimit, queueLimit, cellLimit, payloadBytes, slotBytes}
 use Rattle.plan.specs.Plan.{queueAt, sizeAt, slotsOf}
 use Rattle.plan.specs.Sound.{Sound}
-use Rattle.plan.specs.declared.Plan.{Plan}
+use Rattle.history.specs.Types.{Plan, Sent}
 use Rattle.slots.specs.Slots.{numberIn, payloadIn}
 use Rattle.slots.specs.SlotLaws.{number-same, number-other, payload-same, payload-other, length-stored}
 use Rattle.mailbox.specs.Calls.{slotFor, runningJob}
-use Rattle.mailbox.specs.declared.Sent.{Sent}
 use Rattle.history.specs.History.{Call, send, World, History, _⊑_, same, more, world, Sends, accepted}
 use Rattle.history.specs.Steps.{CanSend, numberAt, sentWorld, next, send-stores, Step, sends, finds, ends, stays, step}
 use Rattle.history.specs.Ground.{valid-at, slots-differ, bytes-inside, number-fits, slot-waits}

@@ -1,15 +1,8 @@
 -- No smaller size does: where a message's slot is asked for again before it is outdated, a history of accepted calls loses the message.
 -- The message is sent, then the one that takes its slot, and then its receiving job reads up to it.
-use Prim.Native.Nat.{ℕ, zero, suc, _+_, _-_, _*_, _%_, _≤_, _<_, max}
-use native.Mathlib.Omega.{arith}
-use native.Mathlib.Nat.{le-refl, add-mod-right, div-eq-of-lt-le, div-mul-le-self, mul-le-mul-right}
-use native.Mathlib.Decide.{ℕ-discrete}
-use mathlib.Core.List.{List}
-use mathlib.Core.Logic.{inl, inr, ⊎-elim}
-use mathlib.Core.Path.{_≡_, refl, sym, ap, subst, _∙_}
-use lib.ListN.{length, getD, set, replicate, length-replicate, getD-replicate}
-use lib.Seq.{getD-set-same, getD-set-other}
-use borrow.Author.Tests.{ne-eqb}
+use Rattle.common.specs.Words.{ℕ, zero, suc, _+_, _-_, _*_, _%_, _≤_, _<_, max, arith, le-refl, add-mod-right, div-eq-of-lt-le, div-mul-le-self}
+use Rattle.common.specs.Words.{mul-le-mul-right, ℕ-discrete, List, inl, inr, ⊎-elim, _≡_, refl, sym, ap, subst, _∙_, length, getD, set, replicate}
+use Rattle.common.specs.Words.{length-replicate, getD-replicate, getD-set-same, getD-set-other, ne-eqb}
 use Rattle.common.specs.Tests.{lt-or-le, having}
 use Rattle.calendar.specs.Calendar.{message}
 use Rattle.model.specs.Model.{Queue, Valid, Sender, receiverPeriod, releaseOf, deadlineOf, number, first, last, jobFor, wantedUntil, outdatedAt, senderOf, hyperperiod}
@@ -21,10 +14,9 @@ use Rattle.model.specs.Multiple.{hyperperiod-common}
 use Rattle.plan.specs.Limits.{taskLimit, queueLimit, cellLimit, lastTick, longestHyperperiod, payloadBytes}
 use Rattle.plan.specs.Plan.{queueAt, sizeAt}
 use Rattle.plan.specs.Sound.{Sound, sound-iff}
-use Rattle.plan.specs.declared.Plan.{Plan}
+use Rattle.history.specs.Types.{Plan, Received}
 use Rattle.slots.specs.Slots.{numberIn}
 use Rattle.mailbox.specs.Calls.{found, slotFor, runningJob, receivingJob}
-use Rattle.mailbox.specs.declared.Received.{Received}
 use Rattle.history.specs.History.{send, receive, World, History, start, _then_, Begins, world, after, receiveSays, Sends, accepted, SentIn, Tells, stores, tells, AllAccepted}
 use Rattle.history.specs.Steps.{CanSend, CanReceive, numberAt, sentWorld, next, lastAt, readWorld, send-stores, receive-finds, after-send, after-finds, found-tells}
 use Rattle.history.specs.Ground.{valid-at}

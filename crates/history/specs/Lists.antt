@@ -1,6 +1,5 @@
 -- Histories and lists of calls are the same thing: each list is a history, and each history comes from a list.
-use mathlib.Core.List.{List, [], _∷_, _++_}
-use mathlib.Core.Path.{_≡_, refl, ap, _∙_}
+use Rattle.common.specs.Words.{List, [], _∷_, _++_, _≡_, refl, ap, _∙_}
 use Rattle.history.specs.History.{Call, History, start, _then_, _⊑_, same, more, goOn, history}
 
 pub goOn-append : (H : History) (cs ds : List Call) → goOn H (cs ++ ds) ≡ goOn (goOn H cs) ds

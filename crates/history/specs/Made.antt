@@ -1,20 +1,13 @@
 -- What the theorems ask of a plan is that planning made it (`Made` of planning). Here is what the proofs take from that.
-use Prim.Native.Nat.{ℕ, _*_, _≤_, _<_}
-use native.Mathlib.Omega.{arith}
-use mathlib.Core.Bool.{true}
-use mathlib.Core.List.{List}
-use mathlib.Core.Path.{_≡_, sym, subst}
-use lib.ListN.{length, replicate, length-replicate}
-use borrow.Author.Tests.{le-ltb}
+use Rattle.common.specs.Words.{ℕ, _*_, _≤_, _<_, arith, true, List, _≡_, sym, subst, length, replicate, length-replicate, le-ltb}
 use Rattle.model.specs.Slots.{slots-fit}
 use Rattle.plan.specs.Limits.{payloadBytes, slotBytes}
 use Rattle.plan.specs.Plan.{queueAt, sizeAt, slotsOf}
 use Rattle.plan.specs.Rules.{soundPlan}
 use Rattle.plan.specs.Sound.{Sound, sound-iff}
-use Rattle.plan.specs.declared.Plan.{Plan}
+use Rattle.history.specs.Types.{Plan, Started}
 use Rattle.planning.specs.Accepted.{Made}
 use Rattle.mailbox.specs.Calls.{startLines, startAnswer}
-use Rattle.mailbox.specs.declared.Started.{Started}
 use Rattle.plan.specs.Verdicts.{passed-good}
 use Rattle.history.specs.History.{Begins}
 use Rattle.history.specs.Ground.{Fitting, valid-at}

@@ -1,26 +1,17 @@
 -- What each receiving job has read after every history: the first numbers of its window, one after the other.
 -- It leans on the view of one call and on the laws of windows; fit sizes play no part.
-use Prim.Native.Nat.{ℕ, zero, suc, _+_, _-_, _/_, _≤_, _<_, max}
-use native.Mathlib.Omega.{arith}
-use native.Mathlib.Nat.{le-refl, zero-add, add-zero, suc-add, add-suc}
-use native.Mathlib.Decide.{ℕ-discrete}
-use mathlib.Core.Bool.{Bool, true, false, cond, _&&_}
-use mathlib.Core.List.{List, [], _∷_, _++_, append-nil}
-use mathlib.Core.Path.{_≡_, refl, sym, ap, subst, _∙_}
-use lib.Dec.{eqb}
-use lib.ListN.{length, getD, length-append, getD-replicate}
-use lib.Seq.{getD-set-same, getD-set-other}
-use borrow.Author.Tests.{eq-eqb, ne-eqb}
+use Rattle.common.specs.Words.{ℕ, zero, suc, _+_, _-_, _/_, _≤_, _<_, max, arith, le-refl, zero-add, add-zero, suc-add, add-suc, ℕ-discrete, Bool}
+use Rattle.common.specs.Words.{true, false, cond, _&&_, List, [], _∷_, _++_, append-nil, _≡_, refl, sym, ap, subst, _∙_, eqb, length, getD}
+use Rattle.common.specs.Words.{length-append, getD-replicate, getD-set-same, getD-set-other, eq-eqb, ne-eqb}
 use Rattle.calendar.specs.Calendar.{message, slot}
 use Rattle.model.specs.Model.{Valid, receiverPeriod, first, last, senderOf}
 use Rattle.model.specs.Order.{period-pos}
 use Rattle.model.specs.Window.{last-mono}
 use Rattle.plan.specs.Limits.{queueLimit, lastTick, payloadBytes}
 use Rattle.plan.specs.Plan.{queueAt}
-use Rattle.plan.specs.declared.Plan.{Plan}
+use Rattle.history.specs.Types.{Plan, Received}
 use Rattle.slots.specs.Slots.{numberIn}
 use Rattle.mailbox.specs.Calls.{found, slotFor, receivingJob}
-use Rattle.mailbox.specs.declared.Received.{Received}
 use Rattle.history.specs.History.{Call, receive, World, History, start, _then_, Begins, world, receiveSays, Reading, readings, reads, readBy, numbers, upFrom}
 use Rattle.history.specs.Steps.{CanReceive, next, lastAt, readWorld, receive-finds, receive-ends, Step, sends, finds, ends, stays, step}
 use Rattle.history.specs.Ground.{div-mono}

@@ -1,17 +1,10 @@
 -- What a receive's answer says of the calls before it and after it. `Theorems` states what comes of it.
-use Prim.Native.Nat.{ℕ, suc, _+_, _-_, _*_, _/_, _≤_, _<_}
-use native.Mathlib.Omega.{arith}
-use native.Mathlib.Nat.{le-refl, div-mul-le-self}
-use native.Mathlib.Decide.{ℕ-discrete}
-use mathlib.Core.List.{List, _++_}
-use mathlib.Core.Logic.{inl, inr}
-use mathlib.Core.Path.{_≡_, refl, sym, ap, subst, _∙_}
+use Rattle.common.specs.Words.{ℕ, suc, _+_, _-_, _*_, _/_, _≤_, _<_, arith, le-refl, div-mul-le-self, ℕ-discrete, List, _++_, inl, inr, _≡_, refl}
+use Rattle.common.specs.Words.{sym, ap, subst, _∙_, length, getD, set, getD-set-same, getD-set-other}
 use lib.Arith.{lt-of-le-ne}
-use lib.ListN.{length, getD, set}
-use lib.Seq.{getD-set-same, getD-set-other}
 use Rattle.common.specs.Tests.{having}
 use Rattle.calendar.specs.Calendar.{message}
-use Rattle.calendar.specs.declared.Slot.{Slot}
+use Rattle.history.specs.Types.{Slot, Plan, Sent, Received}
 use Rattle.model.specs.Model.{Queue, Sender, receiverPeriod, releaseOf, deadlineOf, upTo, number, first, last, senderOf, jobOf}
 use Rattle.model.specs.Number.{upTo-mono}
 use Rattle.model.specs.WayBack.{way-there}
@@ -19,11 +12,8 @@ use Rattle.model.specs.Window.{window-iff}
 use Rattle.plan.specs.Limits.{lastTick, queueLimit, payloadBytes}
 use Rattle.plan.specs.Plan.{queueAt}
 use Rattle.plan.specs.Sound.{Sound}
-use Rattle.plan.specs.declared.Plan.{Plan}
 use Rattle.mailbox.specs.Calls.{runningJob, receivingJob}
 use Rattle.mailbox.specs.View.{viewOf}
-use Rattle.mailbox.specs.declared.Sent.{Sent}
-use Rattle.mailbox.specs.declared.Received.{Received}
 use Rattle.history.specs.History.{Call, send, receive, World, sendSays, History, start, _then_, _⊑_, same, more, Begins, world, receiveSays, Sends, accepted, SentIn, Tells, ofGap, Accepted, tells, empty, readBy, numbers, upFrom, windowNumbers}
 use Rattle.history.specs.Steps.{CanReceive, next, after-finds, receive-moves, Step, sends, finds, ends, stays, step}
 use Rattle.history.specs.Ground.{valid-at, Fitting, slot-waits, div-mono}

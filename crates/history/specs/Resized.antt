@@ -1,11 +1,5 @@
 -- A plan with another size for one queue, "places reckoned anew". It is sound where the new size is at least 1 and no greater than the old one.
-use Prim.Native.Nat.{ℕ, _≤_, _<_}
-use native.Mathlib.Omega.{arith}
-use native.Mathlib.Decide.{ℕ-discrete}
-use mathlib.Core.Bool.{cond}
-use mathlib.Core.Path.{_≡_, refl, sym, _∙_}
-use lib.Dec.{ltb, eqb}
-use borrow.Author.Tests.{lt-ltb, eq-eqb, ne-eqb}
+use Rattle.common.specs.Words.{ℕ, _≤_, _<_, arith, ℕ-discrete, cond, _≡_, refl, sym, _∙_, ltb, eqb, lt-ltb, eq-eqb, ne-eqb}
 use Rattle.common.specs.Table.{table, table-at}
 use Rattle.common.specs.Totals.{only, sum, sum-ext, sum-le}
 use Rattle.plan.specs.Limits.{queueLimit}

@@ -1,24 +1,14 @@
 -- What a job reads is settled by what was sent: a job that read to its end has read each number of its window once, a message exactly where
 -- one was sent, with its bytes. So two histories with the same sends give it the same readings.
-use Prim.Native.Nat.{ℕ, zero, suc, _+_, _-_, _≤_, _<_}
-use native.Mathlib.Omega.{arith}
-use native.Mathlib.Nat.{le-refl}
-use native.Mathlib.Decide.{ℕ-discrete}
-use mathlib.Core.Bool.{Bool, true, false, cond, _&&_}
-use mathlib.Core.List.{List, [], _∷_, _++_}
-use mathlib.Core.Logic.{inl, inr, _↔_}
-use mathlib.Core.Path.{_≡_, refl, sym, ap, subst, _∙_}
-use lib.Dec.{eqb}
-use lib.ListN.{length, length-append}
-use borrow.Author.Tests.{eqb-true, eq-eqb}
+use Rattle.common.specs.Words.{ℕ, zero, suc, _+_, _-_, _≤_, _<_, arith, le-refl, ℕ-discrete, Bool, true, false, cond, _&&_, List, [], _∷_, _++_}
+use Rattle.common.specs.Words.{inl, inr, _↔_, _≡_, refl, sym, ap, subst, _∙_, eqb, length, length-append, eqb-true, eq-eqb}
 use Rattle.calendar.specs.Calendar.{message, slot}
 use Rattle.model.specs.Model.{Queue, first, last, senderOf}
 use Rattle.plan.specs.Limits.{lastTick, payloadBytes}
 use Rattle.plan.specs.Plan.{queueAt}
-use Rattle.plan.specs.declared.Plan.{Plan}
+use Rattle.history.specs.Types.{Plan, Received}
 use Rattle.mailbox.specs.Calls.{slotFor, receivingJob}
 use Rattle.mailbox.specs.View.{viewOf}
-use Rattle.mailbox.specs.declared.Received.{Received}
 use Rattle.history.specs.History.{Call, send, receive, askNumber, askWayBack, askWindow, askView, World, History, start, _then_, _⊑_, same, more, Begins, world, receiveSays, SentIn, Reading, readings, reads, readBy, numbers, numberTold, upFrom, windowNumbers, Fair, asSent, nothingSent, AllFair, Among, ReadToEnd}
 use Rattle.history.specs.Steps.{next}
 use Rattle.history.specs.Ground.{Fitting, valid-at}

@@ -1,29 +1,18 @@
 -- One call, by what it comes to. Every later proof goes by this list of cases and never looks at the tests again.
 -- It leans on Verdicts: a call is accepted exactly when its lines pass.
-use Prim.Native.Nat.{ℕ, _+_, _*_, _≤_, _<_}
-use mathlib.Core.Bool.{Bool, true, false, cond, _&&_, _||_, true≢false}
-use mathlib.Core.List.{List, []}
-use mathlib.Core.Logic.{_⊎_, inl, inr, ⊎-elim}
-use mathlib.Core.Path.{_≡_, refl, sym, ap, subst, _∙_}
-use lib.Dec.{ltb, eqb}
-use lib.ListN.{length, getD}
-use borrow.Author.Tests.{ltb-true, ltb-false, leb-false, eqb-true, not-false, lt-ltb, le-ltb, lt-leb, eq-eqb}
+use Rattle.common.specs.Words.{ℕ, _+_, _*_, _≤_, _<_, Bool, true, false, cond, _&&_, _||_, true≢false, List, [], _⊎_, inl, inr, ⊎-elim, _≡_, refl}
+use Rattle.common.specs.Words.{sym, ap, subst, _∙_, ltb, eqb, length, getD, ltb-true, ltb-false, leb-false, eqb-true, not-false, lt-ltb, le-ltb}
+use Rattle.common.specs.Words.{lt-leb, eq-eqb}
 use Rattle.common.specs.Tests.{lt-or-le, both}
 use Rattle.model.specs.Model.{Sender, last, wantedUntil, senderOf}
 use Rattle.calendar.specs.Calendar.{message, slot}
-use Rattle.calendar.specs.declared.Slot.{Slot}
-use Rattle.calendar.specs.declared.Number.{Number}
-use Rattle.mailbox.specs.declared.State.{State}
+use Rattle.history.specs.Types.{Slot, Number, State, Plan, Refusal, Sent, Received}
 use Rattle.plan.specs.Refusals.{Line}
 use Rattle.plan.specs.Limits.{taskLimit, lastTick, payloadBytes, slotBytes}
 use Rattle.plan.specs.Plan.{queueAt, slotsOf}
 use Rattle.plan.specs.Rules.{soundPlan, connected}
-use Rattle.plan.specs.declared.Plan.{Plan}
-use Rattle.plan.specs.declared.refusal.Refusal.{Refusal}
 use Rattle.slots.specs.Slots.{numberIn, stored}
 use Rattle.mailbox.specs.Calls.{sendLines, receiveLines, sendAnswer, sendState, sendMemory, look, found, receiveState, sentState, readPast, movedTo, steppedOn, runningJob, runningDeadline, runningNumber, receivingJob, nextNumber, slotIn, slotFor}
-use Rattle.mailbox.specs.declared.Sent.{Sent}
-use Rattle.mailbox.specs.declared.Received.{Received}
 use Rattle.plan.specs.Verdicts.{Passed, Stopped, passed-good, stopped-refused, passed-or-stopped}
 use Rattle.history.specs.History.{Call, send, receive, askNumber, askWayBack, askWindow, askView, World, sendSays, receiveSays, after, Sends, accepted, reads, readings, Tells, ofMessage, ofGap, Accepted, stores, tells, empty}
 

@@ -9,21 +9,14 @@
 -- tick t is answered when it comes after H. A statement over every H is so one over every receive of every sequence of calls; `H ⊑ K` says
 -- that K begins with H. `SentIn p m H q n b`: some send on queue q in H, with payload b, was accepted as message n. All definitions
 -- stand in History; each statement here is proved in the file that its proof names, and nothing is assumed.
-use Prim.Native.Nat.{ℕ, _-_, _*_, _≤_, _<_}
-use mathlib.Core.List.{List, _∷_, _++_}
-use mathlib.Core.Logic.{_↔_}
-use mathlib.Core.Path.{_≡_, subst}
-use lib.ListN.{length, drop}
+use Rattle.common.specs.Words.{ℕ, _-_, _*_, _≤_, _<_, List, _∷_, _++_, _↔_, _≡_, subst, length, drop}
 use Rattle.calendar.specs.Calendar.{message, slot}
-use Rattle.calendar.specs.declared.Slot.{Slot}
+use Rattle.history.specs.Types.{Slot, Plan, Sent, Received}
 use Rattle.model.specs.Model.{Sender, receiverPeriod, releaseOf, deadlineOf, number, first, last, senderOf, jobOf}
 use Rattle.plan.specs.Limits.{lastTick, payloadBytes, slotBytes}
 use Rattle.plan.specs.Plan.{queueAt, sizeAt, slotsOf}
-use Rattle.plan.specs.declared.Plan.{Plan}
 use Rattle.mailbox.specs.Calls.{runningJob, receivingJob, slotFor}
 use Rattle.mailbox.specs.View.{viewOf}
-use Rattle.mailbox.specs.declared.Sent.{Sent}
-use Rattle.mailbox.specs.declared.Received.{Received}
 use Rattle.history.specs.History.{Call, receive, World, History, start, _then_, _⊑_, Begins, world, after, sendSays, receiveSays, history, goOn, Sends, SentIn, Tells, readBy, numbers, windowNumbers, AllFair, Among, ReadToEnd, Accepted}
 use Rattle.history.specs.Made.{made-fits, loses-one}
 use Rattle.planning.specs.Accepted.{Made}

@@ -1,12 +1,6 @@
 -- What holds of a running call that no line of the table refuses, in plain facts.
-use Prim.Native.Nat.{ℕ, _+_, _-_, _*_, _<_, _≤_}
-use native.Mathlib.Omega.{arith}
-use mathlib.Core.Bool.{Bool, true, false, not, _||_}
-use mathlib.Core.List.{List}
-use mathlib.Core.Path.{_≡_, refl, sym, _∙_}
-use lib.Dec.{ltb, eqb}
-use lib.ListN.{length, getD}
-use borrow.Author.Tests.{ltb-true, ltb-false, leb-false, eqb-true, not-false}
+use Rattle.common.specs.Words.{ℕ, _+_, _-_, _*_, _<_, _≤_, arith, Bool, true, false, not, _||_, List, _∷_, _≡_, refl, sym, _∙_, ltb, eqb, length}
+use Rattle.common.specs.Words.{getD, ltb-true, ltb-false, leb-false, eqb-true, not-false}
 use Rattle.common.specs.Tests.{passed}
 use Rattle.common.specs.Totals.{sum-next}
 use Rattle.model.specs.Model.{Sender, receiverPeriod, wantedFor, wantedUntil}
@@ -15,12 +9,14 @@ use Rattle.model.specs.Outdating.{wanted-fits}
 use Rattle.plan.specs.Limits.{taskLimit, queueLimit, longestPeriod, mostSlots, lastTick, payloadBytes, slotBytes}
 use Rattle.plan.specs.Plan.{queueAt, sizeAt, placeAt, slotsOf, Usable}
 use Rattle.plan.specs.Facts.{connected-iff}
+use Rattle.plan.specs.Refusals.{Line, _gives_, unnamed}
 use Rattle.plan.specs.Rules.{soundPlan, connected}
 use Rattle.plan.specs.Sound.{Sound, sound-iff, usable}
 use Rattle.plan.specs.Verdicts.{verdict, Passed, clear-passed}
 use Rattle.plan.specs.declared.Plan.{Plan}
+use Rattle.plan.specs.declared.refusal.Rule.the-variants.{ShortMemory}
 use Rattle.plan.specs.declared.refusal.Verdict.{Verdict}
-use Rattle.judge.specs.Lines.{startLines, sendLines, receiveLines, runningJob, runningDeadline, receivingJob}
+use Rattle.judge.specs.Lines.{groundLines, startLines, sendLines, receiveLines, runningJob, runningDeadline, receivingJob}
 
 -- the two parts of a test that failed
 or-left : (a b : Bool) → (a || b) ≡ false → a ≡ false
@@ -43,10 +39,11 @@ slots-end {p} s =
 pub slots-fit : {p : Plan} → Sound p → (1 ≤ p .queues) × (p .queues ≤ queueLimit) × (placeAt p (p .queues - 1) + sizeAt p (p .queues - 1) ≤ mostSlots)
 slots-fit s = (s .checked .some-queue, s .checked .queues-fit, omega (arith, slots-end s, s .total-fits))
 
--- and what `short` then says of rule 8
-pub eight : (p : Plan) → soundPlan p ≡ true → (n : ℕ) {b : Bool} →
-    b ≡ ltb n ((placeAt p (p .queues - 1) + sizeAt p (p .queues - 1)) * slotBytes) → ltb n (slotsOf p * slotBytes) ≡ b
-eight p h n e = rw (← slots-end (sound-iff p .0 h)) (sym e)
+-- and what `short` then leaves of the lines
+pub eight : (p : Plan) → soundPlan p ≡ true → (m : List ℕ) {b : Bool} →
+    b ≡ ltb (length m) ((placeAt p (p .queues - 1) + sizeAt p (p .queues - 1)) * slotBytes) → (rest : List Line) →
+    verdict (groundLines p m rest) ≡ verdict (b gives unnamed ShortMemory ∷ rest)
+eight p h m e rest = rw (h, ← slots-end (sound-iff p .0 h), e)
 
 -- a usable queue's receiver
 pub receiver-fits : {p : Plan} {q : ℕ} → Usable p q → (1 ≤ receiverPeriod (queueAt p q)) × (wantedFor (queueAt p q) ≤ longestPeriod)
@@ -54,9 +51,11 @@ receiver-fits {p} {q} u =
     let r = u .valid .receiver-row in
     (period-pos (queueAt p q) (u .valid) _ r, omega (arith, wanted-fits (queueAt p q) (u .valid), u .periods-fit _ r))
 
--- and its senders
-pub sender-fits : {p : Plan} {q i : ℕ} → Usable p q → Sender (queueAt p q) i →
-    (i < taskLimit) × ((1 ≤ getD (p .period) i 0) × (getD (p .deadline) i 0 ≤ longestPeriod))
+-- and its senders, each with its row of the two columns
+abbrev pub SenderFits : List ℕ → List ℕ → ℕ → Type 0
+SenderFits period deadline i = (i < taskLimit) × ((1 ≤ getD period i 0) × (getD deadline i 0 ≤ longestPeriod))
+
+pub sender-fits : {p : Plan} {q i : ℕ} → Usable p q → Sender (queueAt p q) i → SenderFits (p .period) (p .deadline) i
 sender-fits {p} {q} {i} u s =
     let l = s .row in (
       omega (arith, u .tasks-fit),
@@ -68,7 +67,7 @@ sender-fits {p} {q} {i} u s =
 
 -- where rule 9 was tested and did not apply
 pub connected-fits : (p : Plan) → soundPlan p ≡ true → (q i : ℕ) {a : Bool} → a ≡ connected p q i → not a ≡ false →
-    (i < taskLimit) × ((1 ≤ getD (p .period) i 0) × (getD (p .deadline) i 0 ≤ longestPeriod))
+    SenderFits (p .period) (p .deadline) i
 connected-fits p s q i e h =
     let x = connected-iff p q i .0 (passed e h) in sender-fits (usable (sound-iff p .0 s) q (x .0)) (x .1)
 

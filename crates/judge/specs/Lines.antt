@@ -1,11 +1,7 @@
 -- Which lines of the table of refusals each running call tests, in document 01's order: "Running calls test 7, 8, 14, 9, 11, 10, 12, 13,
 -- as far as each applies". Of the state the lines see two numbers: `before`, its tick, and `sent`, the job after the last one that the
 -- task sent into the queue.
-use Prim.Native.Nat.{ℕ, _*_, _/_}
-use mathlib.Core.Bool.{Bool, not, _||_}
-use mathlib.Core.List.{List, [], _∷_}
-use lib.Dec.{leb, ltb, eqb}
-use lib.ListN.{length}
+use Rattle.common.specs.Words.{ℕ, _*_, _/_, Bool, not, _||_, List, [], _∷_, leb, ltb, eqb, length}
 use Rattle.model.specs.Model.{Queue, due, receiverPeriod, deadlineOf, wantedFor}
 use Rattle.plan.specs.Limits.{lastTick, payloadBytes, slotBytes}
 use Rattle.plan.specs.Plan.{queueAt, slotsOf}

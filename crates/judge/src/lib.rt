@@ -2,21 +2,15 @@
 // are inner functions: rule 7 is the caller's, since a caller that keeps its plan needs to test it only once. What is reckoned for a
 // test fits its type, because the tests before it have passed.
 use calendar::Tick;
-use calendar::deadline_of;
-use calendar::job_at;
-use calendar::wanted_for;
 use plan::Plan;
 use plan::refusal::Refusal;
 use plan::refusal::Rule;
 use plan::refusal::Verdict;
-ghost use mathlib.Core.Path.{_≡_};
-ghost use mathlib.Core.Bool.{true, false, _&&_};
-ghost use Prim.Native.Nat.{_+_, _-_, _*_, _≤_};
-ghost use lib.Dec.{ltb};
-ghost use lib.ListN.{getD};
+ghost use Rattle.common.specs.Words.{_≡_, true, false, _&&_, _+_, _-_, _*_, _≤_, ltb, getD};
 ghost use Rattle.calendar.specs.Calendar.{tick};
 ghost use Rattle.plan.specs.Limits.{taskLimit, queueLimit, longestPeriod, mostSlots, lastTick, slotBytes};
 ghost use Rattle.plan.specs.Refusals.{unnamed};
+ghost use Rattle.plan.specs.Plan.{lentPlan};
 ghost use Rattle.plan.specs.Rules.{soundPlan};
 ghost use Rattle.plan.specs.Verdicts.{verdict};
 ghost use Rattle.plan.specs.declared.refusal.Verdict.{Verdict};
@@ -71,8 +65,8 @@ fn end_of_job(period: u64, after: u64, at: Tick) -> Tick
     requires { ⌜ (1 ≤ period) × (after ≤ longestPeriod) × (at .0 ≤ lastTick) ⌝ }
     ensures { λ r. ⌜ r ≡ tick (ending period after (at .0)) ⌝ }
 {
-    let job = job_at(period, at);
-    deadline_of(period, after, job)
+    let job = calendar::job_at(period, at);
+    calendar::deadline_of(period, after, job)
 }
 
 // Rules 11, 10, 12, 13 of a sender: `last` is the state's tick, and `sent` the job after the last one that it sent.
@@ -120,8 +114,15 @@ fn connected(
 }
 
 // Rules 8, 14, 9, 11, 10, 12, 13.
-pub fn judge_send(
-    plan: Plan,
+pub fn judge_send<'a>(
+    sends: &'a [bool; Plan::CELLS],
+    period: &'a [u64; Plan::TASKS],
+    deadline: &'a [u64; Plan::TASKS],
+    receiver: &'a [usize; Plan::QUEUES],
+    size: &'a [usize; Plan::QUEUES],
+    place: &'a [usize; Plan::QUEUES],
+    tasks: usize,
+    queues: usize,
     memory: &[u8],
     queue: usize,
     task: usize,
@@ -130,19 +131,21 @@ pub fn judge_send(
     last: Tick,
     sent: u64,
 ) -> Verdict
-    requires { ⌜ soundPlan plan ≡ true ⌝ }
-    ensures { λ r. ⌜ r ≡ verdict (sendLines (last .0) sent plan (now (memory .entry)) queue task (at .0) (now (payload .entry))) ⌝ }
+    requires { ⌜ soundPlan (lentPlan (now sends) (now period) (now deadline) (now receiver) (now size) (now place) tasks queues) ≡ true ⌝ }
+    ensures { λ r. ⌜ r ≡ verdict (sendLines (last .0) sent
+        (lentPlan (now (sends .entry)) (now (period .entry)) (now (deadline .entry)) (now (receiver .entry)) (now (size .entry)) (now (place .entry)) tasks queues)
+        (now (memory .entry)) queue task (at .0) (now (payload .entry))) ⌝ }
 {
-    if short(memory.len(), plan.queues, &plan.size, &plan.place) {
+    if short(memory.len(), queues, size, place) {
         return refused(Rule::ShortMemory);
     }
     if payload.len() != Plan::PAYLOAD_BYTES {
         return refused(Rule::PayloadLength);
     }
-    if !connected(plan.queues, plan.tasks, &plan.sends, queue, task) {
+    if !connected(queues, tasks, sends, queue, task) {
         return refused(Rule::NoSuchSender);
     }
-    judge_running(plan.period[task], plan.deadline[task], at, last, sent)
+    judge_running(period[task], deadline[task], at, last, sent)
 }
 
 // Rules 11, 10, 12 of a receiver, whose job wants its messages for so many ticks: `last` is the state's tick.
@@ -164,21 +167,31 @@ fn judge_wanting(period: u64, wanted: u64, at: Tick, last: Tick) -> Verdict
 }
 
 // Rules 8, 9, 11, 10, 12.
-pub fn judge_receive(plan: Plan, memory: &[u8], queue: usize, at: Tick, last: Tick) -> Verdict
-    requires { ⌜ soundPlan plan ≡ true ⌝ }
-    ensures { λ r. ⌜ r ≡ verdict (receiveLines (last .0) plan (now (memory .entry)) queue (at .0)) ⌝ }
+pub fn judge_receive<'a>(
+    sends: &'a [bool; Plan::CELLS],
+    period: &'a [u64; Plan::TASKS],
+    deadline: &'a [u64; Plan::TASKS],
+    receiver: &'a [usize; Plan::QUEUES],
+    size: &'a [usize; Plan::QUEUES],
+    place: &'a [usize; Plan::QUEUES],
+    tasks: usize,
+    queues: usize,
+    memory: &[u8],
+    queue: usize,
+    at: Tick,
+    last: Tick,
+) -> Verdict
+    requires { ⌜ soundPlan (lentPlan (now sends) (now period) (now deadline) (now receiver) (now size) (now place) tasks queues) ≡ true ⌝ }
+    ensures { λ r. ⌜ r ≡ verdict (receiveLines (last .0)
+        (lentPlan (now (sends .entry)) (now (period .entry)) (now (deadline .entry)) (now (receiver .entry)) (now (size .entry)) (now (place .entry)) tasks queues)
+        (now (memory .entry)) queue (at .0)) ⌝ }
 {
-    if short(memory.len(), plan.queues, &plan.size, &plan.place) {
+    if short(memory.len(), queues, size, place) {
         return refused(Rule::ShortMemory);
     }
-    if plan.queues <= queue {
+    if queues <= queue {
         return refused(Rule::NoSuchSender);
     }
-    let receiver = plan.receiver[queue];
-    judge_wanting(
-        plan.period[receiver],
-        wanted_for(plan.deadline[receiver]),
-        at,
-        last,
-    )
+    let row = receiver[queue];
+    judge_wanting(period[row], calendar::wanted_for(deadline[row]), at, last)
 }

@@ -1,9 +1,5 @@
 -- Feeding a text in any division into blocks gives the same lines, and the same carry, as feeding it whole.
-use Prim.Native.Nat.{ℕ}
-use mathlib.Core.Bool.{Bool, true, false}
-use mathlib.Core.List.{List, [], _∷_, _++_}
-use mathlib.Core.Path.{_≡_, refl, sym, ap, _∙_}
-use lib.Dec.{eqb}
+use Rattle.common.specs.Words.{ℕ, Bool, true, false, List, [], _∷_, _++_, _≡_, refl, sym, ap, _∙_, eqb}
 use Rattle.lines.specs.Lines.{lineFeed, cut, Fed, after, fed}
 
 -- one block after another

@@ -1,15 +1,8 @@
 -- The carry buffer: its first `used` bytes are the carry. What it holds after a part of a line was put behind the carry, and the line
 -- that the carry and that part make.
-use Prim.Native.Nat.{ℕ, _+_, _-_, _<_, _≤_, min}
-use native.Mathlib.Omega.{arith}
-use mathlib.Core.Bool.{cond}
-use mathlib.Core.List.{List, _++_}
-use mathlib.Core.Logic.{⊎-elim}
-use mathlib.Core.Path.{_≡_, sym, ap, _∙_}
-use lib.Dec.{eqb, ltb}
-use lib.ListN.{length, take, drop, length-append, length-take}
-use lib.Seq.{take-all, take-take, take-length, length-take-le, sets, length-sets, sets-eq, take-append-add, take-at}
-use borrow.Author.Tests.{eq-eqb, ne-eqb, lt-ltb}
+use Rattle.common.specs.Words.{ℕ, _+_, _-_, _<_, _≤_, min, arith, cond, List, _++_, ⊎-elim, _≡_, sym, ap, _∙_, eqb, ltb, length, take, drop}
+use Rattle.common.specs.Words.{length-append, length-take, take-all, take-take, take-length, length-take-le, sets, length-sets, sets-eq}
+use Rattle.common.specs.Words.{take-append-add, take-at, eq-eqb, ne-eqb, lt-ltb}
 use Rattle.common.specs.Tests.{lt-or-le}
 use Rattle.lines.specs.Lines.{kept, cut}
 

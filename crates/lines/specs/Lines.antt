@@ -1,10 +1,6 @@
 -- Lines of a text that comes in blocks. Document 01: "reads lines of lower-case hexadecimal from standard input, one frame a line";
 -- "A last line without its end counts as a line". Any byte but the line feed belongs to a line.
-use Prim.Native.Nat.{ℕ}
-use mathlib.Core.Bool.{cond}
-use mathlib.Core.List.{List, [], _∷_, _++_}
-use lib.Dec.{eqb}
-use lib.ListN.{take}
+use Rattle.common.specs.Words.{ℕ, cond, List, [], _∷_, _++_, eqb, take}
 
 abbrev pub lineFeed : ℕ
 lineFeed = 10

@@ -1,13 +1,6 @@
 -- The lines of a whole text: the text split at its line feeds, each line cut.
-use Prim.Native.Nat.{ℕ, zero, suc, _≤_}
-use native.Mathlib.Omega.{arith}
-use mathlib.Core.Bool.{Bool, true, false, cond}
-use mathlib.Core.List.{List, [], _∷_, _++_, map, append-assoc, append-nil}
-use mathlib.Core.Path.{_≡_, refl, sym, ap, _∙_}
-use lib.Dec.{eqb}
-use borrow.Author.Tests.{ne-eqb}
-use lib.ListN.{length, take, length-take}
-use lib.Seq.{take-all}
+use Rattle.common.specs.Words.{ℕ, zero, suc, _≤_, arith, Bool, true, false, cond, List, [], _∷_, _++_, map, append-assoc, append-nil, _≡_, refl}
+use Rattle.common.specs.Words.{sym, ap, _∙_, eqb, ne-eqb, length, take, length-take, take-all}
 use Rattle.lines.specs.Lines.{lineFeed, kept, cut, fed, ended}
 
 -- the carry goes before the first piece

@@ -1,29 +1,18 @@
 -- The lookups among each other: number and way back invert each other wherever either answers, and a window answers the numbers of the
 -- messages with deadlines after the job's previous release and not after its own.
-use Prim.Native.Nat.{ℕ, _-_, _*_, _<_, _≤_}
-use native.Mathlib.Omega.{arith}
-use native.Mathlib.Nat.{pos-of-ne-zero, zero-mul}
-use mathlib.Core.Bool.{false, not}
-use mathlib.Core.Logic.{_↔_}
-use mathlib.Core.Path.{_≡_}
-use lib.Dec.{ltb}
-use borrow.Author.Tests.{ltb-true, ltb-false, lt-ltb, le-ltb, eqb-false, ne-eqb, not-false}
+use Rattle.common.specs.Words.{ℕ, _-_, _*_, _<_, _≤_, arith, pos-of-ne-zero, zero-mul, false, not, _↔_, _≡_, ltb, ltb-true, ltb-false, lt-ltb}
+use Rattle.common.specs.Words.{le-ltb, eqb-false, ne-eqb, not-false}
 use Rattle.common.specs.Tests.{having}
 use Rattle.model.specs.Model.{Sender, receiverPeriod, released, deadlineOf, number, upTo, senderOf, jobOf, first, last}
 use Rattle.model.specs.Number.{number-iff, number-above}
 use Rattle.model.specs.WayBack.{way-back, way-there}
 use Rattle.model.specs.Window.{window-iff, window-zero}
 use Rattle.calendar.specs.Calendar.{job, message}
-use Rattle.calendar.specs.declared.Job.{Job}
-use Rattle.calendar.specs.declared.Number.{Number}
+use Rattle.lookups.specs.Types.{Job, Number, Plan, Numbered, Origins, Window}
 use Rattle.plan.specs.Limits.{lastTick}
 use Rattle.plan.specs.Plan.{queueAt}
 use Rattle.plan.specs.Rules.{soundPlan}
 use Rattle.plan.specs.Sound.{Sound, sound-iff, usable}
-use Rattle.plan.specs.declared.Plan.{Plan}
-use Rattle.lookups.specs.declared.Numbered.{Numbered}
-use Rattle.lookups.specs.declared.Origins.{Origins}
-use Rattle.lookups.specs.declared.Window.{Window}
 use Rattle.lookups.specs.Lookups.{numberLines, numberedOf, originLines, originsOf, windowLines, windowOf}
 use Rattle.plan.specs.Facts.{connected-iff}
 use Rattle.plan.specs.Verdicts.{judged-good}

@@ -1,3 +1,4 @@
+pub mod Types
 pub mod Lookups
 pub mod Says
 pub mod Unique

@@ -1,22 +1,13 @@
 -- The three lookups, on any plan and any numbers: "lookups 7, 9, then 11 or 15", and the good answer where none of these applies.
 -- Limits are inclusive at the last tick. In the way back and the window 9 is about the queue alone.
-use Prim.Native.Nat.{ℕ}
-use mathlib.Core.Bool.{not}
-use mathlib.Core.List.{List, [], _∷_}
-use lib.Dec.{ltb, eqb}
+use Rattle.common.specs.Words.{ℕ, not, List, [], _∷_, ltb, eqb}
 use Rattle.model.specs.Model.{receiverPeriod, released, deadlineOf, number, upTo, senderOf, jobOf, first, last}
 use Rattle.calendar.specs.Calendar.{job, message}
-use Rattle.calendar.specs.declared.Job.{Job}
-use Rattle.calendar.specs.declared.Number.{Number}
+use Rattle.lookups.specs.Types.{Job, Number, Plan, Rule, Numbered, Origins, Window}
 use Rattle.plan.specs.Limits.{lastTick}
 use Rattle.plan.specs.Plan.{queueAt}
 use Rattle.plan.specs.Refusals.{Line, unnamed, _gives_, judged}
 use Rattle.plan.specs.Rules.{soundPlan, connected}
-use Rattle.plan.specs.declared.Plan.{Plan}
-use Rattle.plan.specs.declared.refusal.Rule.{Rule}
-use Rattle.lookups.specs.declared.Numbered.{Numbered}
-use Rattle.lookups.specs.declared.Origins.{Origins}
-use Rattle.lookups.specs.declared.Window.{Window}
 
 -- "The number lookup takes a queue, a task and a job and answers the number"
 abbrev pub numberLines : Plan → ℕ → ℕ → Job → List Line

@@ -1,23 +1,13 @@
 -- What the lookups answer in document 01's numbers: the number of the rule that refuses, 0 where none does, and the values.
 -- `row`, the value of a refusal, is 0 in all of them: "all others name 0".
-use Prim.Native.Nat.{ℕ}
-use mathlib.Core.Bool.{cond, not}
-use mathlib.Core.List.{List, [], _∷_}
-use mathlib.Core.Path.{_≡_}
-use lib.Dec.{ltb, eqb}
+use Rattle.common.specs.Words.{ℕ, cond, not, List, [], _∷_, _≡_, ltb, eqb}
 use Rattle.model.specs.Model.{receiverPeriod, released, deadlineOf, number, upTo, senderOf, jobOf, first, last}
-use Rattle.calendar.specs.declared.Job.{Job}
-use Rattle.calendar.specs.declared.Number.{Number}
+use Rattle.lookups.specs.Types.{Job, Number, Plan, Refusal, Numbered, Origins, Window}
 use Rattle.plan.specs.Limits.{lastTick}
 use Rattle.plan.specs.Plan.{queueAt}
 use Rattle.plan.specs.Refusals.{numberOf}
 use Rattle.plan.specs.Verdicts.{judged-map}
 use Rattle.plan.specs.Rules.{soundPlan, connected}
-use Rattle.plan.specs.declared.Plan.{Plan}
-use Rattle.plan.specs.declared.refusal.Refusal.{Refusal}
-use Rattle.lookups.specs.declared.Numbered.{Numbered}
-use Rattle.lookups.specs.declared.Origins.{Origins}
-use Rattle.lookups.specs.declared.Window.{Window}
 use Rattle.lookups.specs.Lookups.{numberLines, numberedOf, originLines, originsOf, windowLines, windowOf}
 
 abbrev pub Said : Type 0

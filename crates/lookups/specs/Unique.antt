@@ -1,12 +1,6 @@
 -- The contracts determine the answers: two results that both meet a lookup's contract are equal. Lookups have no state and no memory.
-use Prim.Native.Nat.{ℕ}
-use mathlib.Core.Path.{_≡_, sym, _∙_}
-use Rattle.calendar.specs.declared.Job.{Job}
-use Rattle.calendar.specs.declared.Number.{Number}
-use Rattle.plan.specs.declared.Plan.{Plan}
-use Rattle.lookups.specs.declared.Numbered.{Numbered}
-use Rattle.lookups.specs.declared.Origins.{Origins}
-use Rattle.lookups.specs.declared.Window.{Window}
+use Rattle.common.specs.Words.{ℕ, _≡_, sym, _∙_}
+use Rattle.lookups.specs.Types.{Job, Number, Plan, Numbered, Origins, Window}
 use Rattle.lookups.specs.Lookups.{numberedOf, originsOf, windowOf}
 
 pub number-of-unique : (p : Plan) (q i : ℕ) (k : Job) (r s : Numbered) → r ≡ numberedOf p q i k → s ≡ numberedOf p q i k → r ≡ s

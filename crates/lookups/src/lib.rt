@@ -2,19 +2,11 @@
 use calendar::Job;
 use calendar::Number;
 use calendar::Tick;
-use numbering::number::first_number;
-use numbering::number::last_number;
-use numbering::number::number_at;
-use numbering::number::up_to;
-use numbering::origin::origin_of;
-use numbering::reach::connected;
-use numbering::reach::deadline_past;
-use numbering::reach::release_past;
 use plan::Plan;
 use plan::refusal::Refusal;
 use plan::refusal::Rule;
-use plan::rules::sound;
-ghost use mathlib.Core.Path.{_≡_};
+use soundness::sound;
+ghost use Rattle.common.specs.Words.{_≡_};
 ghost use Rattle.lookups.specs.Lookups.{numberedOf, originsOf, windowOf};
 
 pub enum Numbered {
@@ -44,19 +36,19 @@ pub fn number_of(plan: Plan, queue: usize, task: usize, job: Job) -> Numbered
             row: 0,
         });
     }
-    if !connected(plan, queue, task) {
+    if !numbering::reach::connected(plan, queue, task) {
         return Numbered::Refused(Refusal {
             rule: Rule::NoSuchSender,
             row: 0,
         });
     }
-    if deadline_past(plan, queue, task, job) {
+    if numbering::reach::deadline_past(plan, queue, task, job) {
         return Numbered::Refused(Refusal {
             rule: Rule::PastLastTick,
             row: 0,
         });
     }
-    let n = number_at(plan, queue, task, job);
+    let n = numbering::number::number_at(plan, queue, task, job);
     Numbered::Is(n)
 }
 
@@ -82,13 +74,13 @@ pub fn way_back(plan: Plan, queue: usize, n: Number) -> Origins
             row: 0,
         });
     }
-    if up_to(plan, queue, Tick(Plan::LAST_TICK)) < n.0 {
+    if numbering::number::up_to(plan, queue, Tick(Plan::LAST_TICK)) < n.0 {
         return Origins::Refused(Refusal {
             rule: Rule::NoSuchNumber,
             row: 0,
         });
     }
-    let origin = origin_of(plan, queue, n);
+    let origin = numbering::origin::origin_of(plan, queue, n);
     let job = origin.job;
     Origins::From(origin.task, job)
 }
@@ -109,13 +101,13 @@ pub fn window_of(plan: Plan, queue: usize, job: Job) -> Window
             row: 0,
         });
     }
-    if release_past(plan, queue, job) {
+    if numbering::reach::release_past(plan, queue, job) {
         return Window::Refused(Refusal {
             rule: Rule::PastLastTick,
             row: 0,
         });
     }
-    let first = first_number(plan, queue, job);
-    let last = last_number(plan, queue, job);
+    let first = numbering::number::first_number(plan, queue, job);
+    let last = numbering::number::last_number(plan, queue, job);
     Window::Numbers(first, last)
 }

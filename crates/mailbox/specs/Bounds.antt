@@ -1,9 +1,5 @@
 -- Slots and numbers of an accepted call stay within their bounds.
-use Prim.Native.Nat.{ℕ, _+_, _*_, _^_, _<_, _≤_}
-use native.Mathlib.Omega.{arith}
-use native.Mathlib.Nat.{mod-lt, div-mul-le-self}
-use mathlib.Core.List.{List}
-use lib.ListN.{length}
+use Rattle.common.specs.Words.{ℕ, _+_, _*_, _^_, _<_, _≤_, arith, mod-lt, div-mul-le-self, List, length}
 use Rattle.model.specs.Model.{receiverPeriod, upTo, last}
 use Rattle.model.specs.Number.{upTo-mono}
 use Rattle.plan.specs.Limits.{taskLimit, lastTick, payloadBytes, slotBytes}

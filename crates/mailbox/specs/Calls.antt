@@ -1,23 +1,15 @@
 -- What start, send and receive answer, and the state and memory that each leaves, on every input. Each call's lines of the table of
 -- refusals are the crate judge's, here of a state.
-use Prim.Native.Nat.{ℕ, _+_, _*_, max}
-use mathlib.Core.Bool.{cond}
-use mathlib.Core.List.{List}
-use lib.Dec.{ltb, eqb}
-use lib.ListN.{getD, set, replicate}
+use Rattle.common.specs.Words.{ℕ, _+_, _*_, max, cond, List, ltb, eqb, getD, set, replicate}
 use Rattle.model.specs.Model.{Queue, number, first, last, senderOf}
 use Rattle.calendar.specs.Calendar.{tick, message, slot}
 use Rattle.plan.specs.Limits.{taskLimit, queueLimit, cellLimit, lastTick, payloadBytes}
 use Rattle.plan.specs.Plan.{queueAt, sizeAt, placeAt, slotsOf}
 use Rattle.plan.specs.Refusals.{Line, judged}
-use Rattle.plan.specs.declared.Plan.{Plan}
+use Rattle.mailbox.specs.Types.{Plan, State, Started, Sent, Received}
 use Rattle.slots.specs.Slots.{slotOf, slotFrom, numberIn, stored, cleared}
 use Rattle.judge.specs.Lines as lines
 pub use Rattle.judge.specs.Lines.{startLines, runningJob, runningDeadline, receivingJob}
-use Rattle.mailbox.specs.declared.State.{State}
-use Rattle.mailbox.specs.declared.Started.{Started}
-use Rattle.mailbox.specs.declared.Sent.{Sent}
-use Rattle.mailbox.specs.declared.Received.{Received}
 
 -- "a fresh state at tick 0"
 abbrev pub fresh : State

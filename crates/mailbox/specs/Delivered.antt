@@ -1,24 +1,16 @@
 -- What accepted calls do for each other: a start leaves every slot unwritten, and a message that was sent is the one that a receive of
 -- its number finds, with its payload in view. Histories with other calls between are the crate history's.
-use Prim.Native.Nat.{ℕ, _+_, _*_, _<_, _≤_, _^_}
-use native.Mathlib.Omega.{arith}
-use native.Mathlib.Nat.{div-mul-le-self}
-use mathlib.Core.List.{List}
-use mathlib.Core.Path.{_≡_, refl, sym, ap, _∙_}
-use lib.ListN.{length}
-use borrow.Author.Tests.{lt-ltb, le-ltb, lt-leb, le-leb, eq-eqb}
+use Rattle.common.specs.Words.{ℕ, _+_, _*_, _<_, _≤_, _^_, arith, div-mul-le-self, List, _≡_, refl, sym, ap, _∙_, length, lt-ltb, le-ltb, lt-leb}
+use Rattle.common.specs.Words.{le-leb, eq-eqb}
 use Rattle.model.specs.Model.{receiverPeriod, last, wantedUntil}
 use Rattle.model.specs.Number.{number-below}
 use Rattle.model.specs.Window.{last-iff}
 use Rattle.calendar.specs.Calendar.{message, slot}
-use Rattle.calendar.specs.declared.Number.{Number}
-use Rattle.calendar.specs.declared.Slot.{Slot}
+use Rattle.mailbox.specs.Types.{Number, Slot, Plan, Refusal, State, Started, Sent, Sending, Received, Verdict}
 use Rattle.plan.specs.Limits.{lastTick, payloadBytes, slotBytes}
 use Rattle.plan.specs.Plan.{queueAt, slotsOf}
 use Rattle.plan.specs.Refusals.{Line, judged}
 use Rattle.plan.specs.Sound.{sound-iff, usable}
-use Rattle.plan.specs.declared.Plan.{Plan}
-use Rattle.plan.specs.declared.refusal.Refusal.{Refusal}
 use Rattle.judge.specs.Accepted.{SendTaken, send-taken}
 use Rattle.slots.specs.Slots.{slotAt, numberIn, payloadIn, stored}
 use Rattle.slots.specs.SlotLaws.{number-same, payload-same, length-stored, number-cleared}
@@ -28,12 +20,6 @@ use Rattle.plan.specs.Verdicts.{verdict, outcome, by-verdict, by-clear, Passed,
 use Rattle.mailbox.specs.Bounds.{slot-inside, count-small}
 use Rattle.mailbox.specs.Outcomes.{started-clear, sent-clear}
 use Rattle.mailbox.specs.Outcomes.{accepted}
-use Rattle.mailbox.specs.declared.State.{State}
-use Rattle.mailbox.specs.declared.Started.{Started}
-use Rattle.mailbox.specs.declared.Sent.{Sent}
-use Rattle.mailbox.specs.declared.Sending.{Sending}
-use Rattle.mailbox.specs.declared.Received.{Received}
-use Rattle.plan.specs.declared.refusal.Verdict.{Verdict}
 
 -- an answer that no refusal gives is given where all lines are passed
 no-refusal : {A : Type 0} (lines : List Line) (refused : Refusal → A) (good a : A) → ((r : Refusal) → refused r ≡ a → ⊥) →

@@ -1,23 +1,16 @@
 -- What a running call looks at in the state: its tick and one number more. `send_on` and `receive_on` are handed these numbers in place
 -- of the state, and answer as every state with them does. Where the state has no entry for a queue or a task, rule 9 refuses the call,
 -- so the number says nothing.
-use Prim.Native.Nat.{ℕ, _<_}
-use native.Mathlib.Omega.{arith}
-use mathlib.Core.Bool.{true, false}
-use mathlib.Core.List.{List}
-use mathlib.Core.Logic.{⊎-elim}
-use mathlib.Core.Path.{_≡_}
-use lib.ListN.{getD}
+use Rattle.common.specs.Words.{ℕ, _<_, arith, true, false, List, ⊎-elim, _≡_, getD}
 use Rattle.common.specs.Tests.{true-or-false}
 use Rattle.plan.specs.Limits.{taskLimit, queueLimit}
 use Rattle.plan.specs.Facts.{connected-iff}
 use Rattle.plan.specs.Rules.{soundPlan, connected}
 use Rattle.plan.specs.Sound.{sound-iff}
 use Rattle.plan.specs.Verdicts.{verdict}
-use Rattle.plan.specs.declared.Plan.{Plan}
+use Rattle.mailbox.specs.Types.{Plan, State}
 use Rattle.judge.specs.Lines as lines
 use Rattle.mailbox.specs.Calls.{lastSent, sendLines}
-use Rattle.mailbox.specs.declared.State.{State}
 
 -- the state's tick is `last`, and `sent` the job after the last one that task i sent into queue q
 pub record SendsFrom (s : State) (q i last sent : ℕ) : Type 0 where

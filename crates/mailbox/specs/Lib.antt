@@ -1,6 +1,6 @@
+pub mod Types
 pub mod Calls
 pub mod Known
-pub mod Window
 pub mod View
 pub mod Outcomes
 pub mod Unique

@@ -1,28 +1,14 @@
 -- What each running call hands back, as the contracts cite it: the answer and the next state in one record. The memory after start and
 -- send is `startMemory` and `sendMemory`; receive and view change no byte.
-use mathlib.Core.Bool.{cond}
-use mathlib.Core.List.{List}
-use mathlib.Core.Path.{_≡_, sym, _∙_}
-use Prim.Native.Nat.{ℕ, _+_, _*_}
-use lib.Dec.{ltb}
-use lib.ListN.{set}
+use Rattle.common.specs.Words.{cond, List, _≡_, sym, _∙_, ℕ, _+_, _*_, ltb, set}
 use Rattle.model.specs.Model.{last}
 use Rattle.calendar.specs.Calendar.{tick, message, slot}
 use Rattle.plan.specs.Limits.{taskLimit, payloadBytes}
 use Rattle.plan.specs.Plan.{queueAt, slotsOf}
-use Rattle.plan.specs.declared.Plan.{Plan}
-use Rattle.plan.specs.declared.refusal.Refusal.{Refusal}
+use Rattle.mailbox.specs.Types.{Plan, Refusal, Verdict, State, Started, Sent, Starting, Sending, Receiving, Received}
 use Rattle.slots.specs.Slots.{stored, cleared}
 use Rattle.mailbox.specs.Calls.{fresh, startLines, startAnswer, startMemory, sendLines, runningNumber, slotIn, slotFor, sendAnswer, sentState, sendState, sendMemory, receivingJob, nextNumber, found, look, receiveState}
 use Rattle.plan.specs.Verdicts.{verdict, by-refusal, by-clear}
-use Rattle.plan.specs.declared.refusal.Verdict.{Verdict}
-use Rattle.mailbox.specs.declared.State.{State}
-use Rattle.mailbox.specs.declared.Started.{Started}
-use Rattle.mailbox.specs.declared.Sent.{Sent}
-use Rattle.mailbox.specs.declared.Starting.{Starting}
-use Rattle.mailbox.specs.declared.Sending.{Sending}
-use Rattle.mailbox.specs.declared.Receiving.{Receiving}
-use Rattle.mailbox.specs.declared.Received.{Received}
 
 abbrev pub starting : Plan → List ℕ → Starting
 starting p m = record { answer = startAnswer p m; state = fresh }

@@ -1,27 +1,15 @@
 -- Refusals of the running calls: each is given exactly where its line is the first that applies, and gives back state and memory.
-use mathlib.Core.Bool.{Bool, true, false, cond}
-use mathlib.Core.List.{List}
-use mathlib.Core.Logic.{_↔_}
-use mathlib.Core.Path.{_≡_, _∙_}
-use Prim.Native.Nat.{ℕ}
-use native.Mathlib.Omega.{arith}
-use lib.Dec.{ltb, eqb}
+use Rattle.common.specs.Words.{Bool, true, false, cond, List, _↔_, _≡_, _∙_, ℕ, arith, ltb, eqb}
 use Rattle.plan.specs.Limits.{lastTick, payloadBytes}
 use Rattle.plan.specs.Plan.{queueAt}
 use Rattle.plan.specs.Refusals.{Line, judged}
-use Rattle.plan.specs.declared.Plan.{Plan}
-use Rattle.plan.specs.declared.refusal.Refusal.{Refusal}
+use Rattle.mailbox.specs.Types.{Plan, Refusal, Verdict, State, Started, Sent, Received}
 use Rattle.model.specs.Model.{last, senderOf}
 use Rattle.calendar.specs.Calendar.{message, slot}
 use Rattle.mailbox.specs.Calls.{startLines, startAnswer, startMemory, sendLines, sendAnswer, sendState, sendMemory, receiveLines, slotFor, receivingJob, nextNumber, look, found, receiveState}
 use Rattle.slots.specs.Slots.{numberIn}
 use Rattle.mailbox.specs.Outcomes.{accepted}
 use Rattle.plan.specs.Verdicts.{verdict, outcome, by-verdict, Stopped, verdict-stopped, stopped-verdict}
-use Rattle.plan.specs.declared.refusal.Verdict.{Verdict}
-use Rattle.mailbox.specs.declared.State.{State}
-use Rattle.mailbox.specs.declared.Started.{Started}
-use Rattle.mailbox.specs.declared.Sent.{Sent}
-use Rattle.mailbox.specs.declared.Received.{Received}
 
 -- of any answer whose refusals can be told apart from each other and from the good answer
 refusal-iff : {A : Type 0} (lines : List Line) (refused : Refusal → A) (good : A) (r : Refusal) →

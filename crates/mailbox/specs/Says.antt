@@ -1,26 +1,16 @@
 -- What the running calls answer in document 01's numbers: the code by which the console names each kind of answer, and its values.
 -- A refusal's values are the number of its line in the table and its row, which is 0 in all running calls.
-use Prim.Native.Nat.{ℕ, _*_}
-use mathlib.Core.Bool.{cond, not, _||_}
-use mathlib.Core.List.{List, [], _∷_}
-use mathlib.Core.Path.{_≡_}
-use lib.Dec.{leb, ltb, eqb}
-use lib.ListN.{length}
+use Rattle.common.specs.Words.{ℕ, _*_, cond, not, _||_, List, [], _∷_, _≡_, leb, ltb, eqb, length}
 use Rattle.model.specs.Model.{wantedUntil}
 use Rattle.plan.specs.Limits.{lastTick, payloadBytes, slotBytes}
 use Rattle.plan.specs.Plan.{queueAt, slotsOf}
 use Rattle.plan.specs.Refusals.{numberOf}
 use Rattle.plan.specs.Rules.{soundPlan, connected}
-use Rattle.plan.specs.declared.Plan.{Plan}
-use Rattle.plan.specs.declared.refusal.Refusal.{Refusal}
+use Rattle.mailbox.specs.Types.{Plan, Refusal, State, Started, Sent, Received}
 use Rattle.judge.specs.Lines.{sentAlready}
 use Rattle.mailbox.specs.Calls.{startLines, startAnswer, sendLines, runningJob, runningDeadline, runningNumber, slotIn, lastSent, sendAnswer, receiveLines, receivingJob, look}
 use Rattle.plan.specs.Verdicts.{judged-map}
 use Rattle.mailbox.specs.Outcomes.{accepted}
-use Rattle.mailbox.specs.declared.State.{State}
-use Rattle.mailbox.specs.declared.Started.{Started}
-use Rattle.mailbox.specs.declared.Sent.{Sent}
-use Rattle.mailbox.specs.declared.Received.{Received}
 
 abbrev pub Said : Type 0
 Said = ℕ × List ℕ

@@ -1,25 +1,16 @@
 -- What a look's answer allows: the number that it names is small enough to count on, and its queue is there to be stepped on.
-use Prim.Native.Nat.{ℕ, _*_, _<_, _≤_}
-use native.Mathlib.Omega.{arith}
-use mathlib.Core.Bool.{Bool, true, false, cond}
-use mathlib.Core.List.{List}
-use mathlib.Core.Path.{_≡_, refl, sym}
-use lib.Dec.{ltb, eqb}
-use borrow.Author.Tests.{ltb-false}
+use Rattle.common.specs.Words.{ℕ, _*_, _<_, _≤_, arith, Bool, true, false, cond, List, _≡_, refl, sym, ltb, eqb, ltb-false}
 use Rattle.model.specs.Model.{last, senderOf}
 use Rattle.calendar.specs.Calendar.{message, slot}
 use Rattle.plan.specs.Limits.{taskLimit, queueLimit, lastTick, payloadBytes}
 use Rattle.plan.specs.Plan.{queueAt}
-use Rattle.plan.specs.declared.Plan.{Plan}
+use Rattle.mailbox.specs.Types.{Plan, State, Received, Verdict}
 use Rattle.slots.specs.Slots.{numberIn}
 use Rattle.mailbox.specs.Calls.{receiveLines, receivingJob, nextNumber, slotFor, found, look}
 use Rattle.plan.specs.Verdicts.{verdict, by-refusal, by-clear}
 use Rattle.judge.specs.Accepted.{ReceiveTaken, receive-taken}
 use Rattle.mailbox.specs.Bounds.{window-small}
 use Rattle.mailbox.specs.Outcomes.{accepted}
-use Rattle.mailbox.specs.declared.State.{State}
-use Rattle.mailbox.specs.declared.Received.{Received}
-use Rattle.plan.specs.declared.refusal.Verdict.{Verdict}
 
 -- no number up to the last tick is larger
 abbrev pub mostNumber : ℕ

@@ -1,18 +1,11 @@
 -- Uniqueness: two outcomes of a call that both meet its contract are the same. Each `..Gives` is a call's contract, of what it hands back
 -- and of the memory after it.
-use mathlib.Core.List.{List}
-use mathlib.Core.Path.{_≡_, sym, _∙_}
-use Prim.Native.Nat.{ℕ}
+use Rattle.common.specs.Words.{List, _≡_, sym, _∙_, ℕ}
 use denote.Ref.{RefT, now}
-use Rattle.plan.specs.declared.Plan.{Plan}
+use Rattle.mailbox.specs.Types.{Plan, State, Starting, Sending, Receiving, Received}
 use Rattle.mailbox.specs.Calls.{startMemory, sendMemory}
 use Rattle.mailbox.specs.View.{viewOf, placeOf}
 use Rattle.mailbox.specs.Outcomes.{starting, sending, receiving}
-use Rattle.mailbox.specs.declared.State.{State}
-use Rattle.mailbox.specs.declared.Starting.{Starting}
-use Rattle.mailbox.specs.declared.Sending.{Sending}
-use Rattle.mailbox.specs.declared.Receiving.{Receiving}
-use Rattle.mailbox.specs.declared.Received.{Received}
 
 one : {A : Type 0} {x y z : A} → x ≡ z → y ≡ z → x ≡ y
 one a b = a ∙ sym b

@@ -1,9 +1,5 @@
 -- The view of a receive answer: which bytes, and where they lie.
-use mathlib.Core.Bool.{cond, Bool, _&&_}
-use mathlib.Core.List.{List, []}
-use Prim.Native.Nat.{ℕ, _+_}
-use lib.Dec.{leb, eqb}
-use lib.ListN.{length}
+use Rattle.common.specs.Words.{cond, Bool, _&&_, List, [], ℕ, _+_, leb, eqb, length}
 use denote.Ref.{RefT, now}
 use Rattle.plan.specs.Limits.{payloadBytes, slotBytes}
 use Rattle.slots.specs.Slots.{slotAt, payloadIn}

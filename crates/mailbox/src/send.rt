@@ -5,25 +5,14 @@ use crate::State;
 use calendar::Job;
 use calendar::Number;
 use calendar::Tick;
-use calendar::deadline_of;
-use calendar::job_at;
-use counting::number::number_due;
-use judge::judge_send;
 use plan::Plan;
 use plan::refusal::Refusal;
 use plan::refusal::Rule;
 use plan::refusal::Verdict;
-use plan::rules::sound;
-use slots::places::slot_for;
-use slots::places::slot_in;
-use slots::store;
-ghost use mathlib.Core.Path.{_≡_};
-ghost use mathlib.Core.Bool.{true};
-ghost use Prim.Native.Nat.{_+_, _*_, _<_, _≤_};
-ghost use lib.ListN.{getD};
+ghost use Rattle.common.specs.Words.{_≡_, true, _+_, _*_, _<_, _≤_, getD};
 ghost use Rattle.calendar.specs.Calendar.{message, job};
 ghost use Rattle.plan.specs.Limits.{taskLimit, queueLimit, lastTick};
-ghost use Rattle.plan.specs.Plan.{queueAt};
+ghost use Rattle.plan.specs.Plan.{lentPlan, queueAt};
 ghost use Rattle.plan.specs.Rules.{soundPlan};
 ghost use Rattle.counting.specs.Columns.{columnsAt, Lent};
 ghost use Rattle.mailbox.specs.declared.State.{State};
@@ -45,15 +34,22 @@ fn running_number<'a>(
         × (runningDeadline (columnsAt (now sends) (now period) (now deadline) tasks queue) task (at .0) ≤ lastTick) ⌝ }
     ensures { λ r. ⌜ r ≡ message (runningNumber (columnsAt (now (sends .entry)) (now (period .entry)) (now (deadline .entry)) tasks queue) task (at .0)) ⌝ }
 {
-    let job = job_at(period[task], at);
-    let due = deadline_of(period[task], deadline[task], job);
-    Number(number_due(sends, period, deadline, tasks, queue, due, task))
+    let job = calendar::job_at(period[task], at);
+    let due = calendar::deadline_of(period[task], deadline[task], job);
+    Number(counting::number::number_due(sends, period, deadline, tasks, queue, due, task))
 }
 
 // Stores a message, and answers as a send does in every state with the tick `last`, where `sent` is the job after the last one that the
 // task sent into the queue. It is for callers that have tested rule 7.
-pub fn send_on(
-    plan: Plan,
+pub fn send_on<'a>(
+    sends: &'a [bool; Plan::CELLS],
+    period: &'a [u64; Plan::TASKS],
+    deadline: &'a [u64; Plan::TASKS],
+    receiver: &'a [usize; Plan::QUEUES],
+    size: &'a [usize; Plan::QUEUES],
+    place: &'a [usize; Plan::QUEUES],
+    tasks: usize,
+    queues: usize,
     memory: &mut [u8],
     queue: usize,
     task: usize,
@@ -62,32 +58,44 @@ pub fn send_on(
     last: Tick,
     sent: u64,
 ) -> Sent
-    requires { ⌜ soundPlan plan ≡ true ⌝ }
+    requires { ⌜ soundPlan (lentPlan (now sends) (now period) (now deadline) (now receiver) (now size) (now place) tasks queues) ≡ true ⌝ }
     ensures { λ r. ⌜ ((s : State) → SendsFrom s queue task (last .0) sent →
-        (r ≡ sendAnswer s plan (now (memory .entry)) queue task (at .0) (now (payload .entry)))
-        × (now (memory .exit) ≡ sendMemory s plan (now (memory .entry)) queue task (at .0) (now (payload .entry)))) ⌝ }
+        (r ≡ sendAnswer s
+        (lentPlan (now (sends .entry)) (now (period .entry)) (now (deadline .entry)) (now (receiver .entry)) (now (size .entry)) (now (place .entry)) tasks queues)
+        (now (memory .entry)) queue task (at .0) (now (payload .entry)))
+        × (now (memory .exit) ≡ sendMemory s
+        (lentPlan (now (sends .entry)) (now (period .entry)) (now (deadline .entry)) (now (receiver .entry)) (now (size .entry)) (now (place .entry)) tasks queues)
+        (now (memory .entry)) queue task (at .0) (now (payload .entry)))) ⌝ }
 {
-    let verdict = judge_send(plan, memory, queue, task, at, payload, last, sent);
-    if let Verdict::Refused(refusal) = verdict {
-        return Sent::Refused(refusal);
-    }
-    let number = running_number(
-        &plan.sends,
-        &plan.period,
-        &plan.deadline,
-        plan.tasks,
+    let verdict = judge::judge_send(
+        sends,
+        period,
+        deadline,
+        receiver,
+        size,
+        place,
+        tasks,
+        queues,
+        memory,
         queue,
         task,
         at,
+        payload,
+        last,
+        sent,
     );
-    let size = plan.size[queue];
-    store(
+    if let Verdict::Refused(refusal) = verdict {
+        return Sent::Refused(refusal);
+    }
+    let number = running_number(sends, period, deadline, tasks, queue, task, at);
+    let slots = size[queue];
+    slots::store(
         memory,
-        slot_for(plan.place[queue], size, number),
+        slots::places::slot_for(place[queue], slots, number),
         number,
         payload,
     );
-    Sent::Stored(number, slot_in(size, number))
+    Sent::Stored(number, slots::places::slot_in(slots, number))
 }
 
 // The job after the last one that a task sent into a queue, from the state's entries; 0 where there is no such entry.
@@ -108,7 +116,7 @@ fn running_job(plan: Plan, queue: usize, task: usize, at: Tick) -> Job
     requires { ⌜ (task < taskLimit) × (1 ≤ getD (plan .period) task 0) ⌝ }
     ensures { λ r. ⌜ r ≡ job (runningJob (queueAt plan queue) task (at .0)) ⌝ }
 {
-    job_at(plan.period[task], at)
+    calendar::job_at(plan.period[task], at)
 }
 
 impl State {
@@ -135,7 +143,7 @@ impl State {
         ensures { λ r. ⌜ (r ≡ sending self plan (now (memory .entry)) queue task (at .0) (now (payload .entry)))
             × (now (memory .exit) ≡ sendMemory self plan (now (memory .entry)) queue task (at .0) (now (payload .entry))) ⌝ }
     {
-        if !sound(plan) {
+        if !soundness::sound(plan) {
             return Sending {
                 answer: Sent::Refused(Refusal {
                     rule: Rule::UnsoundPlan,
@@ -145,7 +153,23 @@ impl State {
             };
         }
         let sent = last_sent(&self.sent, queue, task);
-        let answer = send_on(plan, memory, queue, task, at, payload, self.tick, sent);
+        let answer = send_on(
+            &plan.sends,
+            &plan.period,
+            &plan.deadline,
+            &plan.receiver,
+            &plan.size,
+            &plan.place,
+            plan.tasks,
+            plan.queues,
+            memory,
+            queue,
+            task,
+            at,
+            payload,
+            self.tick,
+            sent,
+        );
         if let Sent::Refused(_) = answer {
             return Sending {
                 answer,

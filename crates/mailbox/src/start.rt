@@ -3,15 +3,11 @@ use crate::Started;
 use crate::Starting;
 use crate::State;
 use calendar::Tick;
-use judge::judge_start;
-use judge::slots_of;
 use plan::Plan;
 use plan::refusal::Refusal;
 use plan::refusal::Rule;
 use plan::refusal::Verdict;
-use plan::rules::sound;
-use slots::clear;
-ghost use mathlib.Core.Path.{_≡_};
+ghost use Rattle.common.specs.Words.{_≡_};
 ghost use Rattle.mailbox.specs.Calls.{fresh, startMemory};
 ghost use Rattle.mailbox.specs.Outcomes.{starting};
 
@@ -31,7 +27,7 @@ impl State {
     pub fn start(plan: Plan, memory: &mut [u8]) -> Starting
         ensures { λ r. ⌜ (r ≡ starting plan (now (memory .entry))) × (now (memory .exit) ≡ startMemory plan (now (memory .entry))) ⌝ }
     {
-        if !sound(plan) {
+        if !soundness::sound(plan) {
             return Starting {
                 answer: Started::Refused(Refusal {
                     rule: Rule::UnsoundPlan,
@@ -40,14 +36,17 @@ impl State {
                 state: State::fresh(),
             };
         }
-        let verdict = judge_start(plan, memory);
+        let verdict = judge::judge_start(plan, memory);
         if let Verdict::Refused(refusal) = verdict {
             return Starting {
                 answer: Started::Refused(refusal),
                 state: State::fresh(),
             };
         }
-        clear(memory, slots_of(plan.queues, &plan.size, &plan.place));
+        slots::clear(
+            memory,
+            judge::slots_of(plan.queues, &plan.size, &plan.place),
+        );
         Starting {
             answer: Started::Ready,
             state: State::fresh(),

@@ -1,9 +1,5 @@
 -- A test that computes and gives `Valid`: for a table that is written out.
-use Prim.Native.Nat.{ℕ}
-use mathlib.Core.Bool.{Bool, true, _&&_}
-use mathlib.Core.Path.{_≡_}
-use lib.Dec.{leb, ltb}
-use borrow.Author.Tests.{leb-true, ltb-true}
+use Rattle.common.specs.Words.{ℕ, Bool, true, _&&_, _≡_, leb, ltb, leb-true, ltb-true}
 use Rattle.common.specs.Tests.{both}
 use Rattle.common.specs.Rows.{every, every-at}
 use Rattle.model.specs.Model.{Queue, Valid}

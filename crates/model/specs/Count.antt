@@ -1,13 +1,8 @@
 -- The laws of `count` and `hasDeadline` for one task with period P and deadline D.
 -- `hasDeadline` is known outside only by `has-own` and `has-job`: a new definition of it proves these two again.
-use Prim.Native.Nat.{ℕ, zero, suc, _+_, _-_, _*_, _/_, _%_, _<_, _≤_}
-use native.Mathlib.Omega.{arith}
-use native.Mathlib.Nat.{le-div-iff-mul-le, mul-le-mul-left, mul-one, mul-le-mul-right, lt-of-mul-lt-mul-right, mul-mod-left, div-add-mod', lt-div-mul-add, add-sub-cancel}
-use mathlib.Core.Bool.{true, false, true≢false}
-use mathlib.Core.Logic.{_↔_, ⊎-elim}
-use mathlib.Core.Path.{_≡_, sym, ap, _∙_}
-use lib.Dec.{leb}
-use borrow.Author.Tests.{lt-ltb, le-ltb, le-leb, eqb-true, leb-true}
+use Rattle.common.specs.Words.{ℕ, zero, suc, _+_, _-_, _*_, _/_, _%_, _<_, _≤_, arith, le-div-iff-mul-le, mul-le-mul-left, mul-one}
+use Rattle.common.specs.Words.{mul-le-mul-right, lt-of-mul-lt-mul-right, mul-mod-left, div-add-mod', lt-div-mul-add, add-sub-cancel, true, false}
+use Rattle.common.specs.Words.{true≢false, _↔_, ⊎-elim, _≡_, sym, ap, _∙_, leb, lt-ltb, le-ltb, le-leb, eqb-true, leb-true}
 use Rattle.common.specs.Totals.{only, le-by, eq-by}
 use Rattle.model.specs.Model.{count, hasDeadline}
 use Rattle.common.specs.Tests.{lt-or-le, true-or-false, and-left, and-right}

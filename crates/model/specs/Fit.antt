@@ -1,8 +1,5 @@
 -- When a size is fit: a test for each message by itself. Every size above a fit one is fit, and 0 is not.
-use Prim.Native.Nat.{ℕ, _+_, _-_, _<_, _≤_}
-use native.Mathlib.Omega.{arith}
-use native.Mathlib.Nat.{lt-of-not-le, not-le-of-lt}
-use mathlib.Core.Logic.{_↔_, ⊎-elim}
+use Rattle.common.specs.Words.{ℕ, _+_, _-_, _<_, _≤_, arith, lt-of-not-le, not-le-of-lt, _↔_, ⊎-elim}
 use Rattle.common.specs.Tests.{lt-or-le, having}
 use Rattle.model.specs.Model.{Queue, Valid, Sender, Fit, upTo, releaseOf, deadlineOf, number, outdatedAt, horizon, outdated}
 use Rattle.model.specs.Order.{deadline-positive}

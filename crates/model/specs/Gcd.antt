@@ -1,12 +1,7 @@
 -- The greatest common divisor by Euclid's rule: the two rules that determine it, and what it is.
-use mathlib.Core.Path.{_≡_, refl, sym, ap, _∙_}
-use mathlib.Core.Bool.{false, cond}
-use mathlib.Core.Logic.{⊎-elim}
-use Prim.Native.Nat.{ℕ, zero, suc, _+_, _*_, _/_, _%_, _<_, _∣_}
-use native.Mathlib.Nat.{not-suc-le-zero, mod-lt, eq-zero-or-pos, dvd-refl, dvd-zero, dvd-mod-iff, zero-mul, mul-pos, add-mul, mul-assoc, mul-lt-mul-of-pos-right, div-add-mod'}
-use native.Mathlib.Omega.{arith}
-use borrow.Author.Tests.{eq-eqb, ne-eqb}
-use lib.Dec.{eqb}
+use Rattle.common.specs.Words.{_≡_, refl, sym, ap, _∙_, false, cond, ⊎-elim, ℕ, zero, suc, _+_, _*_, _/_, _%_, _<_, _∣_, not-suc-le-zero, mod-lt}
+use Rattle.common.specs.Words.{eq-zero-or-pos, dvd-refl, dvd-zero, dvd-mod-iff, zero-mul, mul-pos, add-mul, mul-assoc, mul-lt-mul-of-pos-right}
+use Rattle.common.specs.Words.{div-add-mod', arith, eq-eqb, ne-eqb, eqb}
 use lib.Arith.{digits-mod}
 use Rattle.model.specs.Model.{euclid, gcd}
 

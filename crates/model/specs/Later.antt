@@ -1,9 +1,5 @@
 -- A hyperperiod later: the same jobs, with as many messages more before each as a hyperperiod has.
-use Prim.Native.Nat.{ℕ, _+_, _-_, _/_, _≤_}
-use native.Mathlib.Omega.{arith}
-use mathlib.Core.Bool.{true, false}
-use mathlib.Core.Logic.{⊎-elim}
-use mathlib.Core.Path.{_≡_, _∙_}
+use Rattle.common.specs.Words.{ℕ, _+_, _-_, _/_, _≤_, arith, true, false, ⊎-elim, _≡_, _∙_}
 use Rattle.common.specs.Tests.{true-or-false}
 use Rattle.common.specs.Totals.{only, only-eq, only-add, sum-ext, sum-add}
 use Rattle.model.specs.Model.{Queue, Valid, Sender, CommonMultiple, receiverPeriod, messages, countOf, upTo, releaseOf, deadlineOf, number, precedes, jobsBefore, horizon, wantedFor, outdated}

@@ -5,11 +5,7 @@
 -- Totals over the rows are `sum f rows` and `most f rows` (the greatest) of common's Totals; `only b n` is n where b is true, else 0.
 -- `firstBad t n` of common's Rows is the first number below n that fails the test t, and n where none does.
 -- Three rules stand alone, because requests will change them: `hasDeadline`, `precedes` and `wantedFor`.
-use Prim.Native.Nat.{ℕ, zero, suc, _+_, _-_, _*_, _/_, _%_, _<_, _≤_}
-use mathlib.Core.Bool.{Bool, true, cond, not, _&&_}
-use mathlib.Core.Logic.{_⊎_}
-use mathlib.Core.Path.{_≡_}
-use lib.Dec.{leb, ltb, eqb}
+use Rattle.common.specs.Words.{ℕ, zero, suc, _+_, _-_, _*_, _/_, _%_, _<_, _≤_, Bool, true, cond, not, _&&_, _⊎_, _≡_, leb, ltb, eqb}
 use Rattle.common.specs.Totals.{only, sum, most}
 use Rattle.common.specs.Rows.{firstBad}
 

@@ -1,11 +1,8 @@
 -- The least common multiple of two numbers by the greatest common divisor, and of a queue's periods: its hyperperiod.
-use mathlib.Core.Path.{_≡_, refl, sym, ap, _∙_}
-use mathlib.Core.Bool.{Bool, true, false, cond}
-use mathlib.Core.Logic.{⊎-elim}
-use Prim.Native.Nat.{ℕ, zero, suc, _+_, _*_, _/_, _≤_, _<_, _∣_}
-use native.Mathlib.Nat.{le-refl, le-trans, one-mul, mul-comm, mul-assoc, le-mul-of-pos-right, le-div-iff-mul-le, le-of-dvd, pos-of-dvd-of-pos, dvd-refl, dvd-trans, dvd-mul-right, dvd-mul-left, mul-div-cancel', div-mul-cancel, mul-dvd-mul-left, dvd-of-mul-dvd-mul-left}
-use native.Mathlib.Numerals.{add-one}
-use native.Mathlib.Omega.{arith}
+use Rattle.common.specs.Words.{_≡_, refl, sym, ap, _∙_, Bool, true, false, cond, ⊎-elim, ℕ, zero, suc, _+_, _*_, _/_, _≤_, _<_, _∣_, le-refl}
+use Rattle.common.specs.Words.{le-trans, one-mul, mul-comm, mul-assoc, le-mul-of-pos-right, le-div-iff-mul-le, le-of-dvd, pos-of-dvd-of-pos}
+use Rattle.common.specs.Words.{dvd-refl, dvd-trans, dvd-mul-right, dvd-mul-left, mul-div-cancel', div-mul-cancel, mul-dvd-mul-left}
+use Rattle.common.specs.Words.{dvd-of-mul-dvd-mul-left, add-one, arith}
 use Rattle.common.specs.Tests.{lt-or-le}
 use Rattle.model.specs.Model.{Queue, Valid, Sender, CommonMultiple, gcd, lcm, multiple, hyperperiod, receiverPeriod}
 use Rattle.model.specs.Gcd.{gcd-is, gcd-scaled}

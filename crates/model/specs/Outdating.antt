@@ -1,10 +1,7 @@
 -- When a message is outdated. `outdatedAt` and `horizon` are known outside only by the laws of this file, and `wantedFor` only by
 -- `wanted-pos` and `wanted-fits`: a new length of it proves these two again, and nothing else.
-use Prim.Native.Nat.{ℕ, suc, _+_, _-_, _*_, _/_, _<_, _≤_}
-use native.Mathlib.Omega.{arith}
-use native.Mathlib.Nat.{le-div-iff-mul-le, mul-le-mul-right, lt-of-mul-lt-mul-right, div-mul-le-self, lt-div-mul-add, add-mul-div-right}
-use mathlib.Core.Logic.{_↔_, ⊎-elim}
-use mathlib.Core.Path.{_≡_}
+use Rattle.common.specs.Words.{ℕ, suc, _+_, _-_, _*_, _/_, _<_, _≤_, arith, le-div-iff-mul-le, mul-le-mul-right, lt-of-mul-lt-mul-right}
+use Rattle.common.specs.Words.{div-mul-le-self, lt-div-mul-add, add-mul-div-right, _↔_, ⊎-elim, _≡_}
 use Rattle.model.specs.Model.{Queue, Valid, receiverPeriod, jobFor, outdatedAt, horizon, wantedFor}
 use Rattle.common.specs.Tests.{lt-or-le}
 

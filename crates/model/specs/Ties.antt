@@ -1,11 +1,6 @@
 -- The rule for equal deadlines. `precedes` is known outside only by the laws here: it is a strict total order of the rows.
 -- A new rule proves the first three again, and nothing else.
-use Prim.Native.Nat.{ℕ}
-use native.Mathlib.Omega.{arith}
-use mathlib.Core.Bool.{true, false}
-use mathlib.Core.Logic.{⊎-elim}
-use mathlib.Core.Path.{_≡_, subst}
-use borrow.Author.Tests.{ltb-true, ltb-false, lt-ltb, le-ltb}
+use Rattle.common.specs.Words.{ℕ, arith, true, false, ⊎-elim, _≡_, subst, ltb-true, ltb-false, lt-ltb, le-ltb}
 use Rattle.common.specs.Tests.{true-or-false, clash}
 use Rattle.model.specs.Model.{Queue, precedes}
 

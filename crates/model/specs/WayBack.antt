@@ -1,13 +1,7 @@
 -- The way back from a number: it leads to the one message that has the number, and its deadline is the least tick with so many messages.
 -- It leans on Number's laws: numbers are one-to-one, and each is some message's.
-use Prim.Native.Nat.{ℕ, zero, suc, _-_, _<_, _≤_}
-use native.Mathlib.Omega.{arith}
-use native.Mathlib.Nat.{mul-div-cancel, add-sub-cancel, lt-of-not-le, not-le-of-lt}
-use mathlib.Core.Bool.{Bool, true, false, not}
-use mathlib.Core.Logic.{_↔_, ⊎-elim}
-use mathlib.Core.Path.{_≡_, refl, sym, _∙_}
-use lib.Dec.{ltb}
-use borrow.Author.Tests.{lt-ltb, le-ltb, eq-eqb, eqb-true, ltb-false, ltb-true}
+use Rattle.common.specs.Words.{ℕ, zero, suc, _-_, _<_, _≤_, arith, mul-div-cancel, add-sub-cancel, lt-of-not-le, not-le-of-lt, Bool, true, false}
+use Rattle.common.specs.Words.{not, _↔_, ⊎-elim, _≡_, refl, sym, _∙_, ltb, lt-ltb, le-ltb, eq-eqb, eqb-true, ltb-false, ltb-true}
 use Rattle.common.specs.Tests.{lt-or-le, having, and-left, and-right}
 use Rattle.common.specs.Rows.{firstBad, FirstBad, firstBad-is, firstBad-only}
 use Rattle.model.specs.Model.{Queue, Valid, Sender, deadlineOf, upTo, dueAt, followers, number, tickOf, sentBy, senderOf, jobOf}

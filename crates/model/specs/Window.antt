@@ -1,10 +1,7 @@
 -- Windows: the numbers that a receiver's job is given are those of the messages with deadlines after its previous release and not after
 -- its own. The windows follow one another without hole or overlap.
-use Prim.Native.Nat.{ℕ, suc, _+_, _-_, _*_, _<_, _≤_}
-use native.Mathlib.Omega.{arith}
-use native.Mathlib.Nat.{lt-of-not-le, not-le-of-lt, lt-of-mul-lt-mul-right, mul-le-mul-right, zero-mul}
-use mathlib.Core.Logic.{_↔_}
-use mathlib.Core.Path.{_≡_}
+use Rattle.common.specs.Words.{ℕ, suc, _+_, _-_, _*_, _<_, _≤_, arith, lt-of-not-le, not-le-of-lt, lt-of-mul-lt-mul-right, mul-le-mul-right}
+use Rattle.common.specs.Words.{zero-mul, _↔_, _≡_}
 use Rattle.common.specs.Tests.{having}
 use Rattle.model.specs.Model.{Queue, Valid, Sender, receiverPeriod, deadlineOf, upTo, number, first, last, jobFor}
 use Rattle.model.specs.Number.{number-iff, upTo-zero, upTo-mono}

@@ -1,12 +1,5 @@
 -- Document 01's values that are reckoned by hand and marked p1 to p12: one table, proved by one claim about the definitions.
-use Prim.Native.Nat.{ℕ, _≤_}
-use native.Mathlib.Omega.{arith}
-use mathlib.Core.Bool.{Bool, true, false, _&&_}
-use mathlib.Core.List.{List, [], _∷_}
-use mathlib.Core.Logic.{_↔_}
-use mathlib.Core.Path.{refl}
-use lib.Dec.{T, eqb}
-use lib.ListN.{getD}
+use Rattle.common.specs.Words.{ℕ, _≤_, arith, Bool, true, false, _&&_, List, [], _∷_, _↔_, refl, T, eqb, getD}
 use Rattle.common.specs.Totals.{sum, most}
 use Rattle.common.specs.Rows.{every}
 use Rattle.model.specs.Model.{Queue, Sender, Fit, count, hasDeadline, precedes, upTo, dueAt, followers, number, first, last, wantedFor, outdatedAt, horizon, outdated, deadlineOf, releaseOf, euclid, gcd, lcm, multiple, hyperperiod, messages, need, rowSlots, slotsOver, slots, reach, equation3}

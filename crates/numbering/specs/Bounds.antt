@@ -1,6 +1,5 @@
 -- What a usable queue of a plan allows, from its columns: its rows can be divided by, and its counts fit 64 bits up to the last tick.
-use Prim.Native.Nat.{ℕ, _*_, _<_, _≤_}
-use lib.ListN.{getD}
+use Rattle.common.specs.Words.{ℕ, _*_, _<_, _≤_, getD}
 use Rattle.model.specs.Model.{upTo}
 use Rattle.plan.specs.Limits.{taskLimit, lastTick}
 use Rattle.plan.specs.Plan.{queueAt, Usable}

@@ -1,5 +1,5 @@
 -- The sender and the job behind a number, as the code hands them out.
-use Prim.Native.Nat.{ℕ}
+use Rattle.common.specs.Words.{ℕ}
 use Rattle.model.specs.Model.{Queue, senderOf, jobOf}
 use Rattle.calendar.specs.Calendar.{job}
 use Rattle.plan.specs.Limits.{lastTick}

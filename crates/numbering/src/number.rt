@@ -3,13 +3,9 @@
 use calendar::Job;
 use calendar::Number;
 use calendar::Tick;
-use calendar::deadline_of;
-use calendar::release_of;
 use counting::count;
-use counting::number::number_due;
 use plan::Plan;
-ghost use mathlib.Core.Path.{_≡_};
-ghost use Prim.Native.Nat.{_≤_};
+ghost use Rattle.common.specs.Words.{_≡_, _≤_};
 ghost use Rattle.model.specs.Model.{Sender, deadlineOf, released, receiverPeriod, upTo, number, first, last};
 ghost use Rattle.calendar.specs.Calendar.{message};
 ghost use Rattle.plan.specs.Limits.{lastTick};
@@ -35,8 +31,8 @@ pub fn number_at(plan: Plan, queue: usize, task: usize, job: Job) -> Number
     requires { ⌜ Usable plan queue × Sender (queueAt plan queue) task × (deadlineOf (queueAt plan queue) task (job .0) ≤ lastTick) ⌝ }
     ensures { λ r. ⌜ r ≡ message (number (queueAt plan queue) task (job .0)) ⌝ }
 {
-    let at = deadline_of(plan.period[task], plan.deadline[task], job);
-    let n = number_due(
+    let at = calendar::deadline_of(plan.period[task], plan.deadline[task], job);
+    let n = counting::number::number_due(
         &plan.sends,
         &plan.period,
         &plan.deadline,
@@ -54,7 +50,7 @@ pub fn last_number(plan: Plan, queue: usize, job: Job) -> Number
     ensures { λ r. ⌜ r ≡ message (last (queueAt plan queue) (job .0)) ⌝ }
 {
     let receiver = plan.receiver[queue];
-    let at = release_of(plan.period[receiver], job);
+    let at = calendar::release_of(plan.period[receiver], job);
     Number(up_to(plan, queue, at))
 }
 

@@ -3,13 +3,8 @@
 use calendar::Job;
 use calendar::Number;
 use calendar::Tick;
-use calendar::job_at;
-use counting::sender::sender_at;
-use counting::sender::tick_between;
 use plan::Plan;
-ghost use mathlib.Core.Path.{_≡_};
-ghost use Prim.Native.Nat.{_-_, _/_, _<_, _≤_};
-ghost use lib.ListN.{getD};
+ghost use Rattle.common.specs.Words.{_≡_, _-_, _/_, _<_, _≤_, getD};
 ghost use Rattle.model.specs.Model.{upTo};
 ghost use Rattle.calendar.specs.Calendar.{job};
 ghost use Rattle.plan.specs.Limits.{taskLimit, lastTick};
@@ -28,7 +23,7 @@ fn job_due(plan: Plan, at: Tick, task: usize) -> Job
     ensures { λ r. ⌜ r ≡ job ((at .0 - getD (plan .deadline) task 0) / getD (plan .period) task 0) ⌝ }
 {
     let release = Tick(at.0 - plan.deadline[task]);
-    job_at(plan.period[task], release)
+    calendar::job_at(plan.period[task], release)
 }
 
 // The sender and the job of message n.
@@ -36,7 +31,7 @@ pub fn origin_of(plan: Plan, queue: usize, n: Number) -> Origin
     requires { ⌜ Usable plan queue × (1 ≤ n .0) × (n .0 ≤ upTo (queueAt plan queue) lastTick) ⌝ }
     ensures { λ r. ⌜ r ≡ originOf (queueAt plan queue) (n .0) ⌝ }
 {
-    let at = tick_between(
+    let at = counting::sender::tick_between(
         &plan.sends,
         &plan.period,
         &plan.deadline,
@@ -46,7 +41,7 @@ pub fn origin_of(plan: Plan, queue: usize, n: Number) -> Origin
         Tick(0),
         Tick(Plan::LAST_TICK),
     );
-    let task = sender_at(
+    let task = counting::sender::sender_at(
         &plan.sends,
         &plan.period,
         &plan.deadline,

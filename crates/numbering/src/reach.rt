@@ -1,10 +1,7 @@
 // What a lookup can reach: a task that sends into the queue (rule 9), and a job whose tick is not past the last one (rule 11).
 use calendar::Job;
-use calendar::deadline_of;
 use plan::Plan;
-ghost use mathlib.Core.Path.{_≡_};
-ghost use Prim.Native.Nat.{_<_, _≤_};
-ghost use lib.Dec.{ltb};
+ghost use Rattle.common.specs.Words.{_≡_, _<_, _≤_, ltb};
 ghost use Rattle.model.specs.Model.{due, released, receiverPeriod, deadlineOf};
 ghost use Rattle.plan.specs.Limits.{taskLimit, queueLimit, longestPeriod, lastTick};
 ghost use Rattle.plan.specs.Plan.{queueAt, Usable};
@@ -33,7 +30,7 @@ fn past_last(period: u64, after: u64, job: Job) -> bool
     if Plan::LAST_TICK < job.0 {
         return true;
     }
-    let at = deadline_of(period, after, job);
+    let at = calendar::deadline_of(period, after, job);
     Plan::LAST_TICK < at.0
 }
 

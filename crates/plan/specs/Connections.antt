@@ -1,11 +1,6 @@
 -- A square and a plan that say the same of every counted queue are judged alike by rule 3. Planning's table and the square that rule 7
 -- makes of a plan are such squares.
-use Prim.Native.Nat.{ℕ, _<_, _≤_}
-use native.Mathlib.Omega.{arith}
-use mathlib.Core.Bool.{Bool, not}
-use mathlib.Core.List.{List}
-use mathlib.Core.Path.{_≡_}
-use lib.ListN.{getD}
+use Rattle.common.specs.Words.{ℕ, _<_, _≤_, arith, Bool, not, List, _≡_, getD}
 use Rattle.common.specs.Rows.{some, firstBad, every-same, firstBad-same}
 use Rattle.plan.specs.Limits.{taskLimit, queueLimit}
 use Rattle.plan.specs.Plan.{sendsInto}

@@ -1,10 +1,6 @@
 -- A plan that is sound: document 01's Table A, tasks 5/5, 7/7 and 10/10, the first two sending to the third, with its 9 slots.
 -- One slot more in its place, or none for the queue, and it is sound no longer.
-use Prim.Native.Nat.{ℕ}
-use mathlib.Core.Bool.{true, false}
-use mathlib.Core.List.{_∷_}
-use mathlib.Core.Path.{_≡_, refl}
-use lib.ListN.{replicate}
+use Rattle.common.specs.Words.{ℕ, true, false, _∷_, _≡_, refl, replicate}
 use Rattle.common.specs.Totals.{sum}
 use Rattle.common.specs.Rows.{every, some, firstBad}
 use Rattle.plan.specs.Rules.{oneTo, countsGood, taskGood, onlyTasksSend, queueGood, placeGood, placesGood, checkedPlan, soundPlan}

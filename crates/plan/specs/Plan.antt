@@ -1,7 +1,5 @@
 -- A plan as the model sees it: queue q of a plan, its size and its place.
-use Prim.Native.Nat.{ℕ, _+_, _*_, _<_, _≤_}
-use mathlib.Core.Bool.{Bool, false}
-use lib.ListN.{getD, replicate}
+use Rattle.common.specs.Words.{ℕ, _+_, _*_, _<_, _≤_, Bool, false, List, getD, replicate}
 use Rattle.common.specs.Totals.{sum}
 use Rattle.model.specs.Model.{Queue, Valid}
 use Rattle.plan.specs.Limits.{taskLimit, queueLimit, cellLimit, longestPeriod}
@@ -17,6 +15,19 @@ zeros = record {
   sends = replicate cellLimit false;
   size = replicate queueLimit 0;
   place = replicate queueLimit 0;
+}
+
+-- The plan of lent columns. Inner functions are lent a plan's columns one by one, because a plan by value would be copied at every call.
+abbrev pub lentPlan : List Bool → List ℕ → List ℕ → List ℕ → List ℕ → List ℕ → ℕ → ℕ → Plan
+lentPlan sends period deadline receiver size place tasks queues = record {
+  tasks = tasks;
+  queues = queues;
+  period = period;
+  deadline = deadline;
+  receiver = receiver;
+  sends = sends;
+  size = size;
+  place = place;
 }
 
 -- "which of 16 tasks send into which of 8 queues"

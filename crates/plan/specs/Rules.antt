@@ -1,10 +1,6 @@
 -- Rules 1, 2, 3, 7 and 9 of document 01's table, each as the test that a table or a plan has to pass.
 -- Rules 1 to 3 are stated over counts, columns and connections, so that planning's table and a plan are tested by the same words.
-use Prim.Native.Nat.{ℕ}
-use mathlib.Core.Bool.{Bool, not, _&&_, _||_}
-use mathlib.Core.List.{List}
-use lib.Dec.{leb, ltb, eqb}
-use lib.ListN.{getD}
+use Rattle.common.specs.Words.{ℕ, Bool, not, _&&_, _||_, List, leb, ltb, eqb, getD}
 use Rattle.common.specs.Totals.{sum}
 use Rattle.common.specs.Rows.{every, some, firstBad}
 use Rattle.plan.specs.Limits.{taskLimit, queueLimit, longestPeriod, mostSlots}

@@ -1,12 +1,5 @@
 -- What a sound plan has: rule 7 answers true exactly when these facts hold, and what the crates above use of them.
-use Prim.Native.Nat.{ℕ, _+_, _<_, _≤_}
-use native.Mathlib.Omega.{arith}
-use mathlib.Core.Bool.{Bool, true, false, _&&_}
-use mathlib.Core.List.{List}
-use mathlib.Core.Logic.{_↔_}
-use mathlib.Core.Path.{_≡_, refl, sym, _∙_}
-use lib.Dec.{leb}
-use lib.ListN.{getD}
+use Rattle.common.specs.Words.{ℕ, _+_, _<_, _≤_, arith, Bool, true, false, _&&_, List, _↔_, _≡_, refl, sym, _∙_, leb, getD}
 use Rattle.common.specs.Tests.{and-iff, having}
 use Rattle.common.specs.Totals.{sum, sum-next, sum-up}
 use Rattle.common.specs.Rows.{every, every-iff, every-firstBad}

@@ -1,9 +1,5 @@
 -- The square of yes and no, "which of 16 tasks send into which of 8 queues", as rows, one for each queue. A plan keeps it flat.
-use Prim.Native.Nat.{ℕ, _+_, _*_, _<_}
-use mathlib.Core.Bool.{Bool, false}
-use mathlib.Core.List.{List, []}
-use mathlib.Core.Path.{_≡_}
-use lib.ListN.{getD}
+use Rattle.common.specs.Words.{ℕ, _+_, _*_, _<_, Bool, false, List, [], _≡_, getD}
 use Rattle.common.specs.Table.{table, table-at}
 use Rattle.plan.specs.Limits.{taskLimit, queueLimit}
 use Rattle.plan.specs.Plan.{sendsInto}

@@ -1,12 +1,7 @@
 -- A chain of refusals read as facts. Either every line passed, and the good answer is given, or the first line that applies stopped the
 -- call, and its refusal is given. A call's answer, state and memory are each chosen by the same lines, so the verdict on the lines
 -- decides all three.
-use Prim.Native.Nat.{ℕ}
-use native.Mathlib.Omega.{arith}
-use mathlib.Core.Bool.{Bool, true, false, cond}
-use mathlib.Core.List.{List, [], _∷_, _++_}
-use mathlib.Core.Logic.{_⊎_, inl, inr}
-use mathlib.Core.Path.{_≡_, refl, ap, _∙_}
+use Rattle.common.specs.Words.{ℕ, arith, Bool, true, false, cond, List, [], _∷_, _++_, _⊎_, inl, inr, _≡_, refl, ap, _∙_}
 use Rattle.plan.specs.Refusals.{Line, judged}
 use Rattle.plan.specs.declared.refusal.Refusal.{Refusal}
 use Rattle.plan.specs.declared.refusal.Verdict.{Verdict}

@@ -1,11 +1,8 @@
 // A plan: the task table, which task sends into which queue, and where each queue's slots lie in memory.
-// It is plain data. It can be stored, copied and handed in altered, so every call tests it first (rule 7, `sound` in rules.rt).
+// It is plain data. It can be stored, copied and handed in altered, so every call tests it first (rule 7, the crate `soundness`).
 pub mod refusal; // refusal.rt: the rules that a call can break, and the refusal that it is answered with
-pub mod square; // square.rt: which task sends into which queue, by rows
-pub mod rules; // rules.rt: rules 1, 2, 3 and 7
 
-ghost use mathlib.Core.Path.{_≡_};
-ghost use mathlib.Core.Bool.{true};
+ghost use Rattle.common.specs.Words.{_≡_, true};
 ghost use Rattle.plan.specs.Limits.{taskLimit, queueLimit, cellLimit, longestPeriod, longestHyperperiod, mostMessages, mostSlots, lastTick, payloadBytes, slotBytes};
 ghost use Rattle.plan.specs.Plan.{zeros};
 

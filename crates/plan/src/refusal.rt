@@ -1,5 +1,5 @@
 // The refusals: a rule of document 01's table, and beside it the row that a refusal names.
-ghost use mathlib.Core.Path.{_≡_};
+ghost use Rattle.common.specs.Words.{_≡_};
 ghost use Rattle.plan.specs.Refusals.{numberOf};
 
 // In the order of their numbers, 1 to 15.

@@ -1,14 +1,7 @@
 -- What an accepted planning has made: a sound plan, its table as handed in with zeros beyond the counts, the least fit sizes, never
 -- above equation 3, and the places as running sums. What a refused one has made: the plan of all zeros.
-use Prim.Native.Nat.{ℕ, _<_, _≤_}
-use native.Mathlib.Omega.{arith}
-use mathlib.Core.Bool.{Bool, true, false, _&&_}
-use mathlib.Core.List.{List, _++_}
-use mathlib.Core.Logic.{_⊎_, inl, inr, _↔_}
-use mathlib.Core.Path.{_≡_, refl, sym, ap, _∙_}
-use borrow.Author.Tests.{lt-ltb, ltb-false, leb-true, not-false}
-use lib.Dec.{ltb}
-use lib.ListN.{getD}
+use Rattle.common.specs.Words.{ℕ, _<_, _≤_, arith, Bool, true, false, _&&_, List, _++_, _⊎_, inl, inr, _↔_, _≡_, refl, sym, ap, _∙_, lt-ltb}
+use Rattle.common.specs.Words.{ltb-false, leb-true, not-false, ltb, getD}
 use Rattle.common.specs.Tests.{and-left}
 use Rattle.common.specs.Totals.{only, sum, sum-ext, sum-at}
 use Rattle.common.specs.Table.{table, table-at}
@@ -25,7 +18,7 @@ use Rattle.plan.specs.Sound.{Checked, Sound, sound-iff, checked-usable, checked
 use Rattle.plan.specs.declared.Plan.{Plan}
 use Rattle.plan.specs.declared.refusal.Refusal.{Refusal}
 use Rattle.sizing.specs.Cycle.{cycleShort, messagesFew}
-use Rattle.planning.specs.Table.{tabled}
+use Rattle.tables.specs.Table.{tabled}
 use Rattle.planning.specs.Planning.{longQueue, leastSize, leastSizes, sized, refusedPlan, firstLines, tableLines, accepted, tableJudged, planOf}
 use Rattle.planning.specs.TableLaws.{table-checked, long-within, size-at}
 use Rattle.planning.specs.declared.Planned.{Planned}

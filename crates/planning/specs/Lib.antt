@@ -1,4 +1,3 @@
-pub mod Table
 pub mod Planning
 pub mod TableLaws
 pub mod Accepted

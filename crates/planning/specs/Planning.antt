@@ -1,10 +1,6 @@
 -- What planning answers and the plan that it makes, on every input: rules 1 to 6 in document 01's order, the least sizes, and the
 -- places as running sums.
-use Prim.Native.Nat.{ℕ}
-use mathlib.Core.Bool.{Bool, not, _&&_}
-use mathlib.Core.List.{List, [], _∷_}
-use lib.Dec.{ltb}
-use lib.ListN.{getD}
+use Rattle.common.specs.Words.{ℕ, Bool, not, _&&_, List, [], _∷_, ltb, getD}
 use Rattle.common.specs.Totals.{only, sum}
 use Rattle.common.specs.Rows.{firstBad}
 use Rattle.common.specs.Table.{table}
@@ -17,7 +13,7 @@ use Rattle.plan.specs.declared.Plan.{Plan}
 use Rattle.plan.specs.declared.refusal.Refusal.{Refusal}
 use Rattle.plan.specs.declared.refusal.Rule.the-variants.{TaskOrQueueCount, PeriodOrDeadline, ReceiverOrSender, HyperperiodTooLong, TooManyMessages, TooManySlots}
 use Rattle.sizing.specs.Cycle.{cycleShort, messagesFew}
-use Rattle.planning.specs.Table.{tabled}
+use Rattle.tables.specs.Table.{tabled}
 use Rattle.planning.specs.declared.Planned.{Planned}
 use Rattle.planning.specs.declared.Answer.{Answer}
 

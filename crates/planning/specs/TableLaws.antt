@@ -1,13 +1,6 @@
 -- What the table keeps of its rows: counted rows as they were handed in, zeros beyond. So rules 1 to 3, tested on what was handed in, hold of the table.
-use Prim.Native.Nat.{ℕ, _+_, _*_, _/_, _%_, _<_, _≤_}
-use native.Mathlib.Omega.{arith}
-use mathlib.Core.Bool.{Bool, true, false, _&&_}
-use mathlib.Core.List.{List}
-use mathlib.Core.Logic.{⊎-elim}
-use mathlib.Core.Path.{_≡_, sym, _∙_}
-use borrow.Author.Tests.{lt-ltb, le-ltb, ltb-true}
-use lib.Dec.{ltb}
-use lib.ListN.{getD, List·getD-eq-default}
+use Rattle.common.specs.Words.{ℕ, _+_, _*_, _/_, _%_, _<_, _≤_, arith, Bool, true, false, _&&_, List, ⊎-elim, _≡_, sym, _∙_, lt-ltb, le-ltb}
+use Rattle.common.specs.Words.{ltb-true, ltb, getD, List·getD-eq-default}
 use Rattle.common.specs.Tests.{lt-or-le}
 use Rattle.common.specs.Totals.{only, sum, only-most, sum-ext}
 use Rattle.common.specs.Table.{table-at, table-length}
@@ -20,7 +13,7 @@ use Rattle.plan.specs.Sound.{Checked, checked-of, checked-usable}
 use Rattle.plan.specs.declared.Plan.{Plan}
 use Rattle.sizing.specs.Bounds.{largestSize, slots-small}
 use Rattle.sizing.specs.Cycle.{cycleShort, messagesFew}
-use Rattle.planning.specs.Table.{kept, counted, flatEntry, flat, tabled}
+use Rattle.tables.specs.Table.{kept, counted, flatEntry, flat, tabled}
 use Rattle.planning.specs.Planning.{longQueue, leastSize, leastSizes}
 
 pub counted-at : (limit n : ℕ) (values : List ℕ) (i : ℕ) → n ≤ limit → i < n → getD (counted limit n values) i 0 ≡ getD values i 0

@@ -1,18 +1,12 @@
 // Planning: from a task table to a plan with the least number of slots, or to the first refusal of rules 1 to 6.
 mod places; // places.rt: the sizes and places of all queues
-mod table; // table.rt: the table as a plan without sizes
 
 use places::first_long;
 use places::sized;
 use plan::Plan;
 use plan::refusal::Refusal;
 use plan::refusal::Rule;
-use plan::rules::counts_good;
-use plan::rules::first_bad_queue;
-use plan::rules::first_bad_task;
-use sizing::cycle::cycle_short;
-use table::tabled;
-ghost use mathlib.Core.Path.{_≡_};
+ghost use Rattle.common.specs.Words.{_≡_};
 ghost use Rattle.plan.specs.Refusals.{named};
 ghost use Rattle.plan.specs.Sound.{Checked};
 ghost use Rattle.planning.specs.Planning.{planOf, refusedPlan, tableJudged};
@@ -44,7 +38,7 @@ fn judged_table(table: Plan) -> Planned
 {
     let long = first_long(table);
     if long < table.queues {
-        if !cycle_short(table, long) {
+        if !sizing::cycle::cycle_short(table, long) {
             return refused(Rule::HyperperiodTooLong, long);
         }
         return refused(Rule::TooManyMessages, long);
@@ -64,16 +58,16 @@ pub fn make_plan(
 ) -> Planned
     ensures { λ r. ⌜ r ≡ planOf tasks queues period deadline receiver square ⌝ }
 {
-    if !counts_good(tasks, queues) {
+    if !rules::counts_good(tasks, queues) {
         return refused(Rule::TaskOrQueueCount, 0);
     }
-    let task = first_bad_task(period, deadline, tasks);
+    let task = rules::first_bad_task(period, deadline, tasks);
     if task < tasks {
         return refused(Rule::PeriodOrDeadline, task);
     }
-    let queue = first_bad_queue(square, receiver, tasks, queues);
+    let queue = rules::first_bad_queue(square, receiver, tasks, queues);
     if queue < queues {
         return refused(Rule::ReceiverOrSender, queue);
     }
-    judged_table(tabled(tasks, queues, period, deadline, receiver, square))
+    judged_table(tables::tabled(tasks, queues, period, deadline, receiver, square))
 }

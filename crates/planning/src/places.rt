@@ -2,17 +2,10 @@
 use crate::Answer;
 use crate::Planned;
 use crate::refused;
-use crate::table::kept;
 use calendar::Multiple;
 use plan::Plan;
 use plan::refusal::Rule;
-use sizing::cycle::cycle_good;
-use sizing::cycle::hyperperiod_of;
-use sizing::sizes::slots_over;
-ghost use mathlib.Core.Path.{_≡_};
-ghost use Prim.Native.Nat.{ℕ, _<_, _≤_};
-ghost use lib.Dec.{ltb};
-ghost use lib.ListN.{getD};
+ghost use Rattle.common.specs.Words.{_≡_, ℕ, _<_, _≤_, ltb, getD};
 ghost use Rattle.common.specs.Totals.{only, sum};
 ghost use Rattle.plan.specs.Limits.{queueLimit};
 ghost use Rattle.plan.specs.Sound.{Checked};
@@ -25,7 +18,7 @@ pub fn first_long(table: Plan) -> usize
     ensures { λ r. ⌜ r ≡ longQueue table ⌝ }
 {
     for q in 0..table.queues {
-        if !cycle_good(table, q) {
+        if !sizing::cycle::cycle_good(table, q) {
             return q;
         }
     }
@@ -40,11 +33,11 @@ fn size_of(table: Plan, queue: usize) -> u64
     if table.queues <= queue {
         return 0;
     }
-    let cycle = hyperperiod_of(table, queue);
+    let cycle = sizing::cycle::hyperperiod_of(table, queue);
     let Multiple::Within(ticks) = cycle else {
         return 0;
     };
-    slots_over(table, queue, ticks)
+    sizing::sizes::slots_over(table, queue, ticks)
 }
 
 fn sizes_of(table: Plan) -> [usize; Plan::QUEUES]
@@ -66,7 +59,7 @@ fn places_of(queues: usize, sizes: [usize; Plan::QUEUES]) -> [usize; Plan::QUEUE
     let mut out = [0; Plan::QUEUES];
     let mut sum: usize = 0;
     for q in 0..Plan::QUEUES {
-        out[q] = kept(q < queues, sum as u64) as usize;
+        out[q] = tables::kept(q < queues, sum as u64) as usize;
         sum += sizes[q];
     }
     out

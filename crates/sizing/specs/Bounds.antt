@@ -1,7 +1,5 @@
 -- A least size is small: equation 3 bounds it, and periods are bounded.
-use Prim.Native.Nat.{ℕ, _+_, _*_, _/_, _≤_}
-use native.Mathlib.Omega.{arith}
-use native.Mathlib.Nat.{div-le-self, mul-le-mul-right}
+use Rattle.common.specs.Words.{ℕ, _+_, _*_, _/_, _≤_, arith, div-le-self, mul-le-mul-right}
 use Rattle.common.specs.Totals.{only, only-most, sum-bound, most-le}
 use Rattle.model.specs.Model.{reach, equation3, slots}
 use Rattle.model.specs.Equation3.{slots-bound}

@@ -1,7 +1,5 @@
 -- Rules 4 and 5 of one queue, of a table whose rows have passed rules 1 to 3.
-use Prim.Native.Nat.{ℕ}
-use mathlib.Core.Bool.{Bool}
-use lib.Dec.{leb}
+use Rattle.common.specs.Words.{ℕ, Bool, leb}
 use Rattle.model.specs.Model.{hyperperiod, messages}
 use Rattle.plan.specs.Limits.{longestHyperperiod, mostMessages}
 use Rattle.plan.specs.Plan.{queueAt}

@@ -1,9 +1,6 @@
 -- `horizon`, `need` and `rowSlots` of the model, over columns that have no receiver: two numbers stand in its place, its period, here
 -- `chart`, and how long its messages are wanted. With a plan's own columns and numbers they are those of its queue.
-use Prim.Native.Nat.{ℕ, _+_, _-_, _/_, _<_, _≤_}
-use native.Mathlib.Nat.{div-mul-le-self, lt-of-not-le}
-use native.Mathlib.Omega.{arith}
-use mathlib.Core.Path.{_≡_, refl}
+use Rattle.common.specs.Words.{ℕ, _+_, _-_, _/_, _<_, _≤_, div-mul-le-self, lt-of-not-le, arith, _≡_, refl}
 use Rattle.common.specs.Totals.{most}
 use Rattle.model.specs.Model.{Queue, Valid, Sender, released, releaseOf, deadlineOf, dueAt, precedes, upTo, followers, number, receiverPeriod, wantedFor, horizon, outdated, need, rowSlots}
 use Rattle.model.specs.Number.{number-iff}

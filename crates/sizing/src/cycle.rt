@@ -1,10 +1,7 @@
 // A queue's hyperperiod and the messages in it, of a table that has passed rules 1 to 3.
 use calendar::Multiple;
-use calendar::common_multiple;
 use plan::Plan;
-ghost use mathlib.Core.Path.{_≡_};
-ghost use mathlib.Core.Bool.{cond, _&&_};
-ghost use Prim.Native.Nat.{_≤_, _/_};
+ghost use Rattle.common.specs.Words.{_≡_, cond, _&&_, _≤_, _/_};
 ghost use Rattle.common.specs.Totals.{only};
 ghost use Rattle.model.specs.Model.{lcm, hyperperiod, messages};
 ghost use Rattle.calendar.specs.Calendar.{capped};
@@ -18,7 +15,7 @@ fn joined(on: bool, multiple: u64, period: u64) -> Multiple
     ensures { λ r. ⌜ r ≡ capped longestHyperperiod (cond on (lcm multiple period) multiple) ⌝ }
 {
     if on {
-        common_multiple(multiple, period, Plan::LONGEST_HYPERPERIOD)
+        calendar::common_multiple(multiple, period, Plan::LONGEST_HYPERPERIOD)
     } else {
         Multiple::Within(multiple)
     }

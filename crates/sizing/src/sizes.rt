@@ -3,15 +3,8 @@
 // messages are wanted.
 use calendar::Job;
 use calendar::Tick;
-use calendar::deadline_of;
-use calendar::release_of;
-use calendar::wanted_for;
-use counting::count::up_to;
-use counting::number::number_due;
 use plan::Plan;
-ghost use mathlib.Core.Path.{_≡_};
-ghost use Prim.Native.Nat.{_<_, _≤_, max};
-ghost use lib.ListN.{getD};
+ghost use Rattle.common.specs.Words.{_≡_, _<_, _≤_, max, getD};
 ghost use Rattle.common.specs.Totals.{only};
 ghost use Rattle.model.specs.Model.{Sender, deadlineOf, slotsOver};
 ghost use Rattle.calendar.specs.Calendar.{tick};
@@ -28,7 +21,7 @@ fn horizon_at(chart: u64, wanted: u64, at: Tick) -> Tick
     if at.0 < wanted {
         return Tick(0);
     }
-    release_of(chart, Job((at.0 - wanted) / chart))
+    calendar::release_of(chart, Job((at.0 - wanted) / chart))
 }
 
 // The slots that a job's message asks for.
@@ -48,11 +41,11 @@ fn need_of<'a>(
         × (deadlineOf (columnsAt (now sends) (now period) (now deadline) tasks queue) task (job .0) ≤ lastTick) ⌝ }
     ensures { λ r. ⌜ r ≡ needFor (columnsAt (now (sends .entry)) (now (period .entry)) (now (deadline .entry)) tasks queue) chart wanted task (job .0) ⌝ }
 {
-    let due = deadline_of(period[task], deadline[task], job);
-    let number = number_due(sends, period, deadline, tasks, queue, due, task);
-    let release = release_of(period[task], job);
+    let due = calendar::deadline_of(period[task], deadline[task], job);
+    let number = counting::number::number_due(sends, period, deadline, tasks, queue, due, task);
+    let release = calendar::release_of(period[task], job);
     let horizon = horizon_at(chart, wanted, release);
-    number - up_to(sends, period, deadline, tasks, queue, horizon)
+    number - counting::count::up_to(sends, period, deadline, tasks, queue, horizon)
 }
 
 fn larger(a: u64, b: u64) -> u64
@@ -139,7 +132,7 @@ pub fn slots_over(plan: Plan, queue: usize, ticks: u64) -> u64
 {
     let receiver = plan.receiver[queue];
     let chart = plan.period[receiver];
-    let wanted = wanted_for(plan.deadline[receiver]);
+    let wanted = calendar::wanted_for(plan.deadline[receiver]);
     let mut greatest: u64 = 0;
     for i in 0..plan.tasks {
         let row = share(

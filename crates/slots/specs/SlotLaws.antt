@@ -1,14 +1,8 @@
 -- What is read from a memory after a message was stored in it, or after its slots were cleared: laws of `stored` and `cleared`, over the
 -- payload's width w. They lean on the laws of a run of stores (common's Stores).
-use mathlib.Core.Path.{_≡_, refl, sym, _∙_}
-use mathlib.Core.Logic.{_⊎_, inl, inr, ⊎-elim}
-use mathlib.Core.List.{List, [], _∷_, _++_}
-use Prim.Native.Nat.{ℕ, _+_, _*_, _/_, _%_, _≤_, _<_, _^_}
-use native.Mathlib.Nat.{add-zero, div-add-mod', div-div-eq-div-mul, mul-le-mul-right}
-use native.Mathlib.Omega.{arith}
-use lib.Dec.{lit<}
-use lib.ListN.{length, getD, drop, replicate, length-append, length-drop, length-replicate, getD-replicate, List·getD-append}
-use lib.Seq.{sets, length-sets, drop-at, drop-set-lt}
+use Rattle.common.specs.Words.{_≡_, refl, sym, _∙_, _⊎_, inl, inr, ⊎-elim, List, [], _∷_, _++_, ℕ, _+_, _*_, _/_, _%_, _≤_, _<_, _^_, add-zero}
+use Rattle.common.specs.Words.{div-add-mod', div-div-eq-div-mul, mul-le-mul-right, arith, lit<, length, getD, drop, replicate, length-append}
+use Rattle.common.specs.Words.{length-drop, length-replicate, getD-replicate, List·getD-append, sets, length-sets, drop-at, drop-set-lt}
 use Rattle.common.specs.Tests.{lt-or-le}
 use Rattle.common.specs.Stores.{sets-in, sets-before, sets-after, sets-append, part-same, part-other}
 use Rattle.slots.specs.Slots.{bytesOf, joined, numberFrom, slotAt, numberIn, payloadIn, stored, cleared}

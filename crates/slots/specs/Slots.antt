@@ -1,9 +1,6 @@
 -- Slots in lent memory, over the payload's width w: "A slot is the message number as 8 bytes, high byte first, then the payload;
 -- number 0 means never written."
-use mathlib.Core.List.{List, [], _∷_, _++_}
-use Prim.Native.Nat.{ℕ, _+_, _*_, _/_, _%_}
-use lib.ListN.{getD, drop, replicate}
-use lib.Seq.{sets}
+use Rattle.common.specs.Words.{List, [], _∷_, _++_, ℕ, _+_, _*_, _/_, _%_, getD, drop, replicate, sets}
 use Rattle.common.specs.Stores.{part}
 
 -- "Message n lies in slot n mod L", within its queue of L slots

@@ -5,10 +5,7 @@ pub mod places; // places.rt: which slot is a message's
 use calendar::Number;
 use calendar::Slot;
 use plan::Plan;
-ghost use mathlib.Core.Path.{_≡_};
-ghost use Prim.Native.Nat.{_+_, _%_, _^_, _≤_, _<_};
-ghost use lib.ListN.{length};
-ghost use lib.Seq.{sets};
+ghost use Rattle.common.specs.Words.{_≡_, _+_, _%_, _^_, _≤_, _<_, length, sets};
 ghost use Rattle.calendar.specs.Calendar.{message};
 ghost use Rattle.plan.specs.Limits.{payloadBytes, slotBytes};
 ghost use Rattle.slots.specs.Slots.{bytesOf, joined, slotAt, numberIn, stored, cleared};

@@ -1,8 +1,7 @@
 // Where a message lies: slot n mod L within its queue, and the queue's place before it.
 use calendar::Number;
 use calendar::Slot;
-ghost use mathlib.Core.Path.{_≡_};
-ghost use Prim.Native.Nat.{_+_, _^_, _<_, _≤_};
+ghost use Rattle.common.specs.Words.{_≡_, _+_, _^_, _<_, _≤_};
 ghost use Rattle.calendar.specs.Calendar.{slot};
 ghost use Rattle.slots.specs.Slots.{slotOf, slotFrom};
 

@@ -13,7 +13,6 @@ use mailbox::Sent;
 use mailbox::Started;
 use mailbox::State;
 use plan::Plan;
-use view::view;
 
 // The longest payload and filler that a line can ask for; a length counts modulo one more.
 const MOST_BYTES: usize = 64;
@@ -101,7 +100,7 @@ fn receive(before: State, plan: Plan, line: Line, memory: &[u8]) -> Receiving {
 fn say_view(kept: Received, line: Line, memory: &[u8]) {
     let filler = [(line.value[1] % 256) as u8; MOST_BYTES];
     let asked = line.value[0] as usize % (MOST_BYTES + 1);
-    let bytes = view(kept, memory, &filler[..asked]);
+    let bytes = view::view(kept, memory, &filler[..asked]);
     if bytes.len() == 0 {
         io::write_all(STDOUT_FILENO, b"none\n");
         return;

@@ -10,13 +10,8 @@ use libc::STDOUT_FILENO;
 use lookups::Numbered;
 use lookups::Origins;
 use lookups::Window;
-use lookups::number_of;
-use lookups::way_back;
-use lookups::window_of;
 use plan::Plan;
-use plan::square::square_of;
 use planning::Answer;
-use planning::make_plan;
 
 // The tasks of a line `tasks P/D P/D ..`, and no queue yet.
 fn tasks_of(line: Line) -> Plan {
@@ -73,13 +68,13 @@ fn planned(table: Plan) -> Plan {
     let deadline = table.deadline;
     let receiver = table.receiver;
     let sends = table.sends;
-    let made = make_plan(
+    let made = planning::make_plan(
         table.tasks,
         table.queues,
         period,
         deadline,
         receiver,
-        square_of(sends),
+        soundness::square::square_of(sends),
     );
     let answer = made.answer;
     let plan = made.plan;
@@ -150,9 +145,9 @@ pub fn look_up(plan: Plan, line: Line) {
     let second = line.value[1];
     let word = line.word;
     match word {
-        b'n' => say_number(number_of(plan, queue, second as usize, Job(line.value[2]))),
-        b'b' => say_origins(way_back(plan, queue, Number(second))),
-        b'w' => say_window(window_of(plan, queue, Job(second))),
+        b'n' => say_number(lookups::number_of(plan, queue, second as usize, Job(line.value[2]))),
+        b'b' => say_origins(lookups::way_back(plan, queue, Number(second))),
+        b'w' => say_window(lookups::window_of(plan, queue, Job(second))),
         _ => {}
     }
 }

@@ -2,7 +2,6 @@
 // opens a remark.
 use libc::STDOUT_FILENO;
 use plan::refusal::Refusal;
-use plan::refusal::rule_number;
 
 // More numbers than any line has.
 pub const MOST: usize = 40;
@@ -83,5 +82,9 @@ pub fn say(words: &[u8], a: u64, b: u64) {
 
 pub fn say_refused(refusal: Refusal) {
     let rule = refusal.rule;
-    say(b"refused ", rule_number(rule) as u64, refusal.row as u64);
+    say(
+        b"refused ",
+        plan::refusal::rule_number(rule) as u64,
+        refusal.row as u64,
+    );
 }

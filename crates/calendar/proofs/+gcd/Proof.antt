@@ -1,9 +1,5 @@
-use mathlib.Core.Path.{sym, _∙_}
-use native.Mathlib.Nat.{mod-lt, pos-of-ne-zero}
-use native.Mathlib.Omega.{arith}
-use borrow.Author.Needs.{needs}
+use Rattle.common.specs.Words.{sym, _∙_, mod-lt, pos-of-ne-zero, arith, needs, ℕ, _<_}
 use Rattle.model.specs.Gcd.{gcd-zero, gcd-step}
-use Prim.Native.Nat.{ℕ, _<_}
 use borrow.Fn.Kinds.{In}
 use borrow.Fn.PlainCycle.{Measures, is, falls, and}
 use Rattle.calendar.proofs.gcd.Reads as gcd

@@ -1,8 +1,5 @@
 -- `calendar::common_multiple`: the quotient's test says whether the product, which is the least common multiple, is over the limit.
-use Prim.Native.Nat.{ℕ, _*_, _/_, _<_, _≤_}
-use native.Mathlib.Nat.{mul-comm, le-div-iff-mul-le, div-lt-iff-lt-mul}
-use native.Mathlib.Omega.{arith}
-use borrow.Author.Needs.{needs}
+use Rattle.common.specs.Words.{ℕ, _*_, _/_, _<_, _≤_, mul-comm, le-div-iff-mul-le, div-lt-iff-lt-mul, arith, needs}
 use Rattle.common.specs.Tests.{tests}
 use Rattle.model.specs.Model.{gcd, lcm}
 use Rattle.model.specs.Multiple.{gcd-pos}

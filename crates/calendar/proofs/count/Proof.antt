@@ -1,8 +1,5 @@
 -- `calendar::count`: the definition's two cases. The sum fits since the quotient is at most the tick less 1.
-use Prim.Native.Nat.{_-_}
-use native.Mathlib.Nat.{div-le-self}
-use native.Mathlib.Omega.{arith}
-use borrow.Author.Needs.{needs}
+use Rattle.common.specs.Words.{_-_, div-le-self, arith, needs}
 use Rattle.common.specs.Tests.{tests}
 use Rattle.model.specs.Model.{count}
 use Rattle.calendar.proofs.count.Statement.{statement}

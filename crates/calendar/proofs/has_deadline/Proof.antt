@@ -1,5 +1,5 @@
 -- `calendar::has_deadline`: the definition's two tests.
-use borrow.Author.Needs.{needs}
+use Rattle.common.specs.Words.{needs}
 use Rattle.common.specs.Tests.{tests}
 use Rattle.model.specs.Model.{hasDeadline}
 use Rattle.calendar.proofs.has_deadline.Statement.{statement}

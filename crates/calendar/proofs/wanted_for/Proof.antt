@@ -1,5 +1,5 @@
 -- `wanted_for`: the receiver's deadline itself.
-use mathlib.Core.Path.{sym}
+use Rattle.common.specs.Words.{sym}
 use Rattle.model.specs.Model.{wantedFor}
 use Rattle.calendar.proofs.wanted_for.Statement.{statement}
 use Rattle.calendar.proofs.wanted_for.Tie as tie

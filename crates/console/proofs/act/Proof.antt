@@ -1,5 +1,5 @@
 -- `console::act`: a clause of the definition for each frame.
-use borrow.Author.Needs.{needs}
+use Rattle.common.specs.Words.{needs}
 use Rattle.console.specs.Turns.{by-frame}
 use Rattle.console.proofs.act.Statement.{statement}
 use Rattle.console.proofs.act.Tie as tie
@@ -34,7 +34,8 @@ returns-4 c =
     let g = w .before .before .before .before .before in
     let k = g .before .before in
     let a = k .before .before .before .before .args in
-    rw (by-frame (a .desk) (a .memory .now) (a .bytes .now) _ (k .frame-of .ensures) (g .frame3 .given .1)) (rw (w .before .payload-in .ensures) at (w .send .ensures))
+    rw (by-frame (a .desk) (a .memory .now) (a .bytes .now) _ (k .frame-of .ensures) (g .frame3 .given .1))
+    (rw (w .before .payload-in .ensures) at (w .send .ensures))
 
 returns-5 : tie.Need-returns-5
 returns-5 c =
@@ -50,7 +51,8 @@ returns-6 c =
     let g = w .before .before in
     let k = g .before .before in
     let a = k .before .before .before .before .args in
-    rw (by-frame (a .desk) (a .memory .now) (a .bytes .now) _ (k .frame-of .ensures) (g .enum-told2 .given .1)) (w .refuse-line .ensures (a .memory .now))
+    rw (by-frame (a .desk) (a .memory .now) (a .bytes .now) _ (k .frame-of .ensures) (g .enum-told2 .given .1))
+    (w .refuse-line .ensures (a .memory .now))
 
 pub act-spec : {M : Type 1} → statement M
 act-spec =

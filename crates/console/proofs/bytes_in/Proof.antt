@@ -1,5 +1,5 @@
 -- `console::bytes_in`: what decoding found.
-use borrow.Author.Needs.{needs}
+use Rattle.common.specs.Words.{needs}
 use Rattle.console.specs.Framing.{framed-some, framed-none}
 use Rattle.console.proofs.bytes_in.Statement.{statement}
 use Rattle.console.proofs.bytes_in.Tie as tie

@@ -1,6 +1,6 @@
 -- `console::refuse_line`: the line of a bad frame was written.
 use Rattle.console.specs.Turns.{written}
-use borrow.Author.Needs.{needs}
+use Rattle.common.specs.Words.{needs}
 use Rattle.console.proofs.refuse_line.Statement.{statement}
 use Rattle.console.proofs.refuse_line.Tie as tie
 

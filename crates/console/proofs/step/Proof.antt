@@ -1,8 +1,5 @@
 -- `console::step`: a short buffer, and a line whose bytes lie at the start of the array.
-use borrow.Author.Needs.{needs}
-use native.Mathlib.Omega.{arith}
-use mathlib.Core.Path.{refl}
-use lib.ListN.{length-take}
+use Rattle.common.specs.Words.{needs, arith, refl, length-take}
 use Rattle.console.specs.Framing.{step-framed}
 use Rattle.console.specs.Turns.{step-short}
 use Rattle.console.proofs.step.Statement.{statement}

@@ -1,10 +1,5 @@
 -- `feed::bytes_until`: the line where it stands is the cut of the carry and of what the block has of it.
-use borrow.Author.Needs.{needs}
-use native.Mathlib.Omega.{arith}
-use mathlib.Core.List.{_++_}
-use mathlib.Core.Path.{_≡_, ap, _∙_}
-use Prim.Native.Nat.{_-_}
-use lib.ListN.{length, take}
+use Rattle.common.specs.Words.{needs, arith, _++_, _≡_, ap, _∙_, _-_, length, take}
 use Rattle.common.specs.Stores.{part}
 use Rattle.console.specs.Framing.{framedBytes}
 use Rattle.lines.specs.Lines.{cut}

@@ -1,18 +1,19 @@
--- `feed::feed`: each arm of the loop takes the turn of its line.
-use borrow.Author.Needs.{needs}
-use native.Mathlib.Omega.{arith}
-use mathlib.Core.Path.{_≡_, refl, ap}
-use Prim.Native.Nat.{_-_, _≤_}
-use lib.ListN.{length, take, drop, length-take, length-drop}
-use lib.Seq.{take-all}
-use Rattle.console.specs.Calls.{sentState, sent, sends-on, readState, read, reads-on}
+-- `feed::feed`: the lines that end in the block take their turns. Every arm of the match starts from the frame of a line, and shows only that
+-- what it did is the turn of the line's bytes; that the loop goes on from there is said once for all arms.
+use Rattle.common.specs.Words.{needs, arith, List, _≡_, refl, _∙_, ℕ, _+_, _-_, _<_, _≤_, length, take, length-take}
+use borrow.Rule.Slice.PartMut.{midOf, putMid}
+use mir.Syntax.{w64}
+use mir.Val.{Fits}
+use Rattle.console.specs.Entries.{sentState, readState}
+use Rattle.console.specs.SendCalls.{sent, sends-on}
+use Rattle.console.specs.ReceiveCalls.{read, reads-on}
 use Rattle.console.specs.Desk.{withState}
 use Rattle.console.specs.Turns.{bad-taken, send-framed, receive-framed}
-use Rattle.feed.specs.Outcome.{worldOf, fedFrom}
-use Rattle.feed.specs.Step.{room-of}
-use Rattle.feed.specs.Turns.{Underway, underway-first, turn-short, turn-tail, turn-step, written-little}
-use Rattle.feed.specs.Feed.{enough}
 use Rattle.lines.specs.Ends.{end-past}
+use Rattle.feed.specs.Feed.{enough}
+use Rattle.feed.specs.Outcome.{worldOf, fedFrom}
+use Rattle.feed.specs.Step.{part-rest, room-of}
+use Rattle.feed.specs.Turns.{Underway, Turned, underway-first, turn-short, turn-tail, turn-step}
 use Rattle.feed.proofs.feed.Statement.{statement}
 use Rattle.feed.proofs.feed.Tie as tie
 
@@ -28,220 +29,180 @@ loop-holds : tie.Need-loop-holds Inv-loop μ-loop
 loop-holds c =
     let k = c .before .before .before .before in
     let a = k .args in
-    (underway-first (a .piece .now) (a .from) (a .memory .now) (a .held .now) (a .out .now) (a .desk) (a .used) (k .pre .2) (k .pre .0) (k .pre .1) (k .pre .3), refl)
+    let p = k .pre in
+    (underway-first (a .piece .now) (a .from) (a .memory .now) (a .held .now) (a .out .now) (a .desk) (a .used) (p .2) (p .0) (p .1) (p .3), refl)
 
+-- ## The end of a line is looked for
+
+module _ (e : tie.After-end-of Inv-loop μ-loop) where
+  abbrev here : tie.At-loop Inv-loop μ-loop
+  here = e .before .before
+
+  abbrev start : tie.Start Inv-loop μ-loop
+  start = here .before .before .before .before .before
+
+  abbrev piece : List ℕ
+  piece = start .args .piece .now
+
+  end-after : here .loop .at ≤ e .end-of .result
+  end-after = omega (arith, e .end-of .ensures, end-past piece (here .loop .at))
+
+-- no line ends
 returns : tie.Need-returns Inv-loop μ-loop
 returns c =
     let k = c .before .before .before in
     let e = k .before .before .before .before in
-    let l = e .before .before .loop in
-    let piece = e .before .before .before .before .before .before .before .args .piece .now in
-    let w : take (length piece - l .at) (drop (l .at) piece) ≡ drop (l .at) piece = take-all (length piece - l .at) (drop (l .at) piece) (omega (arith, length-drop (l .at) piece)) in
-    rw (c .so-far .ensures, k .keep .ensures .0, k .keep .ensures .1, e .end-of .ensures, w)
+    let l = here e .loop in
+    rw (c .so-far .ensures, k .keep .ensures .0, k .keep .ensures .1, e .end-of .ensures, part-rest (piece e) (l .at))
     (turn-tail (l .inv .0) (e .before .loop-test .taken) (rw (e .end-of .ensures) at (k .before .before .before .if1 .taken)), l .inv .0 .sound)
 
 bytes-until-requires : tie.Need-bytes-until-requires Inv-loop μ-loop
-bytes-until-requires c κs =
-    let e = c .before .before .before in
-    let l = e .before .before .loop in
-    let p : l .at ≤ e .end-of .result = omega (arith, e .end-of .ensures, end-past (e .before .before .before .before .before .before .before .args .piece .now) (l .at)) in
-    search needs
+bytes-until-requires c κs = let p = end-after (c .before .before .before) in search needs
 
-slice-aggregate-frame-of : tie.Need-slice-aggregate-frame-of Inv-loop μ-loop
-slice-aggregate-frame-of c = simp length-take (omega (arith, c .before .before .before .before .bytes-until .ensures .0))
+-- ## A line ended, and its frame is known
+
+module _ (k : tie.After-frame-of Inv-loop μ-loop) where
+  abbrev line : tie.After-bytes-until Inv-loop μ-loop
+  line = k .before .before .before .before .before
+
+  abbrev ended : tie.After-end-of Inv-loop μ-loop
+  ended = line .before .before .before .before
+
+  abbrev turn : tie.At-loop Inv-loop μ-loop
+  turn = here ended
+
+  -- what an arm shows
+  abbrev Arm : Type 0
+  Arm =
+      Turned (turn .loop .d) (turn .loop .memory) (take (line .bytes-until .result) (line .bytes-until .last .1 .1 .1 .1 .1 .0))
+      (turn .loop .out) (turn .loop .w)
+
+  end-inside : ended .end-of .result < length (piece ended)
+  end-inside = line .before .before .before .if1 .left
+
+  room : enough ≤ length (midOf (turn .loop .w) (length (turn .loop .out) - turn .loop .w) (turn .loop .out))
+  room = omega (arith, room-of (turn .loop .out) (turn .loop .w), ended .before .loop-test .taken)
+
+  less : length (piece ended) - (ended .end-of .result + 1) < length (piece ended) - turn .loop .at
+  less = omega (arith, end-inside, end-after ended)
+
+  again :
+      (x : Arm) → let a = start ended .args in
+      Inv-loop (a .memory .now) (a .held .now) (a .used) (a .piece .now) (a .from) (a .out .now) (a .desk) (a .used) (a .from) 0
+      (x .memory′) (line .bytes-until .last .0) (putMid (turn .loop .w) (length (turn .loop .out) - turn .loop .w) (turn .loop .out) (x .after))
+      (x .result .desk) 0 (ended .end-of .result + 1) (turn .loop .w + x .result .written)
+  again x = (
+    turn-step (turn .loop .inv .0) x _ (ended .before .loop-test .taken) (ended .end-of .ensures) end-inside (line .bytes-until .ensures .1) refl
+        (k .before .before .before .before .held2 .given),
+    x .same-size ∙ turn .loop .inv .1,
+  )
+
+  fits : (x : Arm) → Fits w64 (turn .loop .w + x .result .written)
+  fits x = omega (arith, again x .0 .stored .fits, again x .0 .stored .size, start ended .good .1 .1 .1 .1 .1 .1 .0 .0)
 
 add-at : tie.Need-add-at Inv-loop μ-loop
-add-at c =
-    let x = c .before .before .before .before .before .before .before .before in
-    let g = x .before .before .before .before .before .before .before .before .good in
-    omega (arith, x .if1 .left, g .1 .1 .1 .1 .0 .0)
+add-at k = omega (arith, end-inside k, start (ended k) .good .1 .1 .1 .1 .0 .0)
 
-add-w : tie.Need-add-w Inv-loop μ-loop
-add-w c =
-    let b = c .before .before in
-    let k = b .before .before .before .before in
-    let n = k .before .before .before .before .before in
-    let x = n .before .before .before in
-    let l = x .before .before .before .loop in
-    let s : b .write-bad .result ≤ enough =
-    written-little (l .inv .0) _ _ (l .held) (l .memory) _ (record { desk = l .d; written = b .write-bad .result })
-    (x .before .before .loop-test .taken) (n .bytes-until .ensures .1)
-    (bad-taken (l .d) (l .memory) _ _ _ (b .write-bad .result) (k .frame-of .ensures) (b .before .before .enum-told .given .1) (b .write-bad .ensures)) in
-    let g = x .before .before .before .before .before .before .before .before .good in
-    omega (arith, l .inv .0 .stored .fits, x .before .before .loop-test .taken, g .1 .1 .1 .1 .1 .1 .0 .0, ap length (l .inv .0 .stored .is))
+-- ## A frame that means nothing
 
-loop-less : tie.Need-loop-less Inv-loop μ-loop
-loop-less c =
-    let x = c .before .before .before .before .before .before .before .before .before .before .before .before .before .before in
-    let l = x .before .before .before .loop in
-    omega (arith, x .if1 .left, x .before .end-of .ensures, end-past (x .before .before .before .before .before .before .before .before .args .piece .now) (l .at))
+module _ (c : tie.After-slice-known6 Inv-loop μ-loop) where
+  abbrev bad-frame : tie.After-frame-of Inv-loop μ-loop
+  bad-frame = c .before .before .before .before .before .before
 
-loop-again : tie.Need-loop-again Inv-loop μ-loop
-loop-again c =
-    let b = c .before .before in
-    let k = b .before .before .before .before in
-    let n = k .before .before .before .before .before in
-    let x = n .before .before .before in
-    let l = x .before .before .before .loop in (
-      turn-step (l .inv .0) _ _ (n .bytes-until .last .0) (l .memory) _ (record { desk = l .d; written = b .write-bad .result })
-          (x .before .before .loop-test .taken) (n .bytes-until .ensures .1)
-          (bad-taken (l .d) (l .memory) _ _ _ (b .write-bad .result) (k .frame-of .ensures) (b .before .before .enum-told .given .1) (b .write-bad .ensures))
-          (x .before .end-of .result) (x .before .end-of .ensures) (x .if1 .left) refl (search needs),
-      search needs,
-    )
+  abbrev bad-arm : Arm bad-frame
+  bad-arm =
+      let b = c .before .before in
+      record {
+        result = record { desk = _; written = b .write-bad .result };
+        memory′ = _;
+        after = _;
+        same-size = refl;
+        takes = bad-taken _ _ _ _ _ _ (bad-frame .frame-of .ensures) (b .before .before .enum-told .given .1) (b .write-bad .ensures);
+      }
+
+-- ## 04
+
+abbrev send-frame : tie.After-spot-of Inv-loop μ-loop → tie.After-frame-of Inv-loop μ-loop
+send-frame o = o .before .before .before .before .before .before .before
 
 send-line-requires : tie.Need-send-line-requires Inv-loop μ-loop
 send-line-requires c κs =
-    let o = c .before .before .before .before .before in
-    let k = o .before .before .before .before .before .before .before in
-    let i = k .before .before .before .before .before .before .before .before .before .before in
-    let l = i .before .loop in
-    (rw (o .spot-of .ensures) (l .inv .0 .sound .sound), omega (arith, room-of (l .out) (l .w), i .loop-test .taken))
+    let o = c .before .before .before .before .before .before .before .before .before .before .before in
+    (rw (o .spot-of .ensures) (turn (send-frame o) .loop .inv .0 .sound .sound), room (send-frame o))
 
-slice-aggregate-payload-in : tie.Need-slice-aggregate-payload-in Inv-loop μ-loop
-slice-aggregate-payload-in c =
-    let k = c .before .before .before .before .before .before .before .before in
-    simp length-take (omega (arith, k .before .before .before .before .before .bytes-until .ensures .0))
+module _ (c : tie.After-struct-known Inv-loop μ-loop) where
+  abbrev send : tie.After-send-line Inv-loop μ-loop
+  send = c .before .before .before .before .before .before .before .before
 
-add-w-2 : tie.Need-add-w-2 Inv-loop μ-loop
-add-w-2 c =
-    let p = c .before in
-    let s = p .before .before .before .before .before .before .before in
-    let y = s .before .before .before .before in
-    let o = y .before .before in
-    let z = o .before in
-    let f = z .before .before .before .before in
-    let k = f .before .before in
-    let n = k .before .before .before .before .before in
-    let x = n .before .before .before in
-    let l = x .before .before .before .loop in
-    let b : s .send-line .result .written ≤ enough =
-    written-little (l .inv .0) _ _ (l .held) _ _ (sent (l .d) _ _ (s .send-line .result)) (x .before .before .loop-test .taken) (n .bytes-until .ensures .1)
-    (send-framed (l .d) (l .memory) _ _ (k .frame-of .ensures) (f .frame .given .1) (y .payload-in .ensures)
-    (s .send-line .ensures (l .d) (sends-on (l .d) _ _ _ _ (o .spot-of .ensures) (z .last-sent .ensures)))) in
-    let g = x .before .before .before .before .before .before .before .before .good in
-    omega (arith, l .inv .0 .stored .fits, x .before .before .loop-test .taken, g .1 .1 .1 .1 .1 .1 .0 .0, ap length (l .inv .0 .stored .is))
+  abbrev send-spot : tie.After-spot-of Inv-loop μ-loop
+  send-spot = send .before .before .before .before .before .before .before .before .before .before .before .before
 
-loop-less-2 : tie.Need-loop-less-2 Inv-loop μ-loop
-loop-less-2 c =
-    let z = c .before .before .before .before .before .before .before .before .before .before .before .before .before .before .before in
-    let k = z .before .before .before .before .before .before in
-    let x = k .before .before .before .before .before .before .before .before in
-    let l = x .before .before .before .loop in
-    omega (arith, x .if1 .left, x .before .end-of .ensures, end-past (x .before .before .before .before .before .before .before .before .args .piece .now) (l .at))
+  abbrev send-arm : Arm (send-frame send-spot)
+  send-arm =
+      let f = send-spot .before .before .before .before .before in
+      let p = send .before .before .before .before .before .before .before .before .before .before in
+      record {
+        result = sent _ _ _ (send .send-line .result);
+        memory′ = _;
+        after = _;
+        same-size = c .before .before .before .before .before .before .before .memory .given;
+        takes =
+            send-framed _ _ _ _ (send-frame send-spot .frame-of .ensures) (f .frame .given .1) (p .payload-in .ensures)
+            (send .send-line .ensures _ (sends-on _ _ _ _ _ (send-spot .spot-of .ensures) (send-spot .before .last-sent .ensures)));
+      }
 
+-- with the entry stored
 loop-again-2 : tie.Need-loop-again-2 Inv-loop μ-loop
 unfolding withState sentState
-loop-again-2 c =
-    let p = c .before in
-    let s = p .before .before .before .before .before .before .before in
-    let y = s .before .before .before .before in
-    let o = y .before .before in
-    let z = o .before in
-    let f = z .before .before .before .before in
-    let k = f .before .before in
-    let n = k .before .before .before .before .before in
-    let x = n .before .before .before in
-    let l = x .before .before .before .loop in
-    let m = p .before .before .before .before .before .before .memory .given in
-    let i = l .inv .1 in (
-      rw (p .put-entry .ensures)
-          (turn-step (l .inv .0) _ _ (n .bytes-until .last .0) _ _ (sent (l .d) _ _ (s .send-line .result)) (x .before .before .loop-test .taken) (n .bytes-until .ensures .1)
-          (send-framed (l .d) (l .memory) _ _ (k .frame-of .ensures) (f .frame .given .1) (y .payload-in .ensures)
-          (s .send-line .ensures (l .d) (sends-on (l .d) _ _ _ _ (o .spot-of .ensures) (z .last-sent .ensures))))
-          (x .before .end-of .result) (x .before .end-of .ensures) (x .if1 .left) refl (search needs)),
-      search needs,
-    )
+loop-again-2 c = rw (c .before .put-entry .ensures) (again (send-frame (send-spot c)) (send-arm c))
+
+-- ## 05
+
+abbrev receive-frame : tie.After-spot-of2 Inv-loop μ-loop → tie.After-frame-of Inv-loop μ-loop
+receive-frame o = o .before .before .before .before .before .before .before
 
 receive-line-requires : tie.Need-receive-line-requires Inv-loop μ-loop
 receive-line-requires c κs =
-    let o = c .before .before .before in
-    let k = o .before .before .before .before .before .before .before in
-    let i = k .before .before .before .before .before .before .before .before .before .before in
-    let l = i .before .loop in
-    (rw (o .spot-of2 .ensures) (l .inv .0 .sound .sound), omega (arith, room-of (l .out) (l .w), i .loop-test .taken))
+    let o = c .before .before .before .before .before .before .before .before .before in
+    (rw (o .spot-of2 .ensures) (turn (receive-frame o) .loop .inv .0 .sound .sound), room (receive-frame o))
 
-add-w-3 : tie.Need-add-w-3 Inv-loop μ-loop
-add-w-3 c =
-    let p = c .before in
-    let s = p .before .before .before .before .before in
-    let o = s .before .before .before .before in
-    let z = o .before in
-    let f = z .before .before .before .before in
-    let k = f .before .before in
-    let n = k .before .before .before .before .before in
-    let x = n .before .before .before in
-    let l = x .before .before .before .loop in
-    let b : s .receive-line .result .written ≤ enough =
-    written-little (l .inv .0) _ _ (l .held) _ _ (read (l .d) _ (s .receive-line .result)) (x .before .before .loop-test .taken) (n .bytes-until .ensures .1)
-    (receive-framed (l .d) (l .memory) _ _ (k .frame-of .ensures) (f .frame2 .given .1)
-    (s .receive-line .ensures (l .d) (reads-on (l .d) _ _ _ (o .spot-of2 .ensures) (z .reading-of .ensures)))) in
-    let g = x .before .before .before .before .before .before .before .before .good in
-    omega (arith, l .inv .0 .stored .fits, x .before .before .loop-test .taken, g .1 .1 .1 .1 .1 .1 .0 .0, ap length (l .inv .0 .stored .is))
+module _ (c : tie.After-struct-known2 Inv-loop μ-loop) where
+  abbrev receive : tie.After-receive-line Inv-loop μ-loop
+  receive = c .before .before .before .before .before .before
 
-loop-less-3 : tie.Need-loop-less-3 Inv-loop μ-loop
-loop-less-3 c =
-    let z = c .before .before .before .before .before .before .before .before .before .before .before in
-    let k = z .before .before .before .before .before .before in
-    let x = k .before .before .before .before .before .before .before .before in
-    let l = x .before .before .before .loop in
-    omega (arith, x .if1 .left, x .before .end-of .ensures, end-past (x .before .before .before .before .before .before .before .before .args .piece .now) (l .at))
+  abbrev receive-spot : tie.After-spot-of2 Inv-loop μ-loop
+  receive-spot = receive .before .before .before .before .before .before .before .before .before .before
 
+  abbrev receive-arm : Arm (receive-frame receive-spot)
+  receive-arm =
+      let f = receive-spot .before .before .before .before .before in
+      record {
+        result = read _ _ (receive .receive-line .result);
+        memory′ = _;
+        after = _;
+        same-size = refl;
+        takes =
+            receive-framed _ _ _ _ (receive-frame receive-spot .frame-of .ensures) (f .frame2 .given .1)
+            (receive .receive-line .ensures _ (reads-on _ _ _ _ (receive-spot .spot-of2 .ensures) (receive-spot .before .reading-of .ensures)));
+      }
+
+-- with the reading place stored
 loop-again-3 : tie.Need-loop-again-3 Inv-loop μ-loop
 unfolding withState readState
-loop-again-3 c =
-    let p = c .before in
-    let s = p .before .before .before .before .before in
-    let o = s .before .before .before .before in
-    let z = o .before in
-    let f = z .before .before .before .before in
-    let k = f .before .before in
-    let n = k .before .before .before .before .before in
-    let x = n .before .before .before in
-    let l = x .before .before .before .loop in (
-      rw (p .put-place .ensures)
-          (turn-step (l .inv .0) _ _ (n .bytes-until .last .0) _ _ (read (l .d) _ (s .receive-line .result)) (x .before .before .loop-test .taken) (n .bytes-until .ensures .1)
-          (receive-framed (l .d) (l .memory) _ _ (k .frame-of .ensures) (f .frame2 .given .1)
-          (s .receive-line .ensures (l .d) (reads-on (l .d) _ _ _ (o .spot-of2 .ensures) (z .reading-of .ensures))))
-          (x .before .end-of .result) (x .before .end-of .ensures) (x .if1 .left) refl (search needs)),
-      search needs,
-    )
+loop-again-3 c = rw (c .before .put-place .ensures) (again (receive-frame (receive-spot c)) (receive-arm c))
 
-slice-aggregate-act : tie.Need-slice-aggregate-act Inv-loop μ-loop
-slice-aggregate-act c = simp length-take (omega (arith, c .before .before .before .before .before .before .before .before .bytes-until .ensures .0))
+-- ## Every other frame
 
-add-w-4 : tie.Need-add-w-4 Inv-loop μ-loop
-add-w-4 c =
-    let s = c .before .before .before .before .before .before in
-    let k = s .before .before .before .before .before in
-    let n = k .before .before .before .before .before in
-    let x = n .before .before .before in
-    let l = x .before .before .before .loop in
-    let b : s .act .result .written ≤ enough =
-    written-little (l .inv .0) _ _ (l .held) _ _ (s .act .result)
-    (x .before .before .loop-test .taken) (n .bytes-until .ensures .1) (s .act .ensures) in
-    let g = x .before .before .before .before .before .before .before .before .good in
-    omega (arith, l .inv .0 .stored .fits, x .before .before .loop-test .taken, g .1 .1 .1 .1 .1 .1 .0 .0, ap length (l .inv .0 .stored .is))
+module _ (c : tie.After-struct-known3 Inv-loop μ-loop) where
+  abbrev act-frame : tie.After-frame-of Inv-loop μ-loop
+  act-frame = c .before .before .before .before .before .before .before .before .before .before .before
 
-loop-less-4 : tie.Need-loop-less-4 Inv-loop μ-loop
-loop-less-4 c =
-    let s = c .before .before .before .before .before .before in
-    let x = s .before .before .before .before .before .before .before .before .before .before .before .before .before in
-    let l = x .before .before .before .loop in
-    omega (arith, x .if1 .left, x .before .end-of .ensures, end-past (x .before .before .before .before .before .before .before .before .args .piece .now) (l .at))
+  abbrev act-arm : Arm act-frame
+  act-arm =
+      let m = c .before .before .before .before .before in
+      record { result = m .before .act .result; memory′ = _; after = _; same-size = m .memory2 .given; takes = m .before .act .ensures }
 
-loop-again-4 : tie.Need-loop-again-4 Inv-loop μ-loop
-loop-again-4 c =
-    let s = c .before .before .before .before .before .before in
-    let k = s .before .before .before .before .before in
-    let n = k .before .before .before .before .before in
-    let x = n .before .before .before in
-    let l = x .before .before .before .loop in (
-      turn-step (l .inv .0) _ _ (n .bytes-until .last .0) _ _ (s .act .result)
-          (x .before .before .loop-test .taken) (n .bytes-until .ensures .1) (s .act .ensures)
-          (x .before .end-of .result) (x .before .end-of .ensures) (x .if1 .left) refl (search needs),
-      search needs,
-    )
+-- ## The room is short
 
 returns-2 : tie.Need-returns-2 Inv-loop μ-loop
 returns-2 c =
@@ -252,70 +213,23 @@ pub feed-spec : {M : Type 1} → statement M
 feed-spec =
     tie.close
     (tie.spec
-    Inv-loop
-    μ-loop
-    loop-holds
-    (λ c. search needs)
-    (λ c κs. search needs)
-    (λ c. search needs)
-    (λ c. search needs)
-    (λ c. search needs)
-    (λ c κs. search needs)
-    (λ c κs. search needs)
-    (λ c. search needs)
-    (λ c. search needs)
-    (λ c. search needs)
-    returns
-    (λ c. search needs)
-    bytes-until-requires
-    (λ c. search needs)
-    slice-aggregate-frame-of
-    (λ c κs. search needs)
+    Inv-loop μ-loop loop-holds
+    (λ c. search needs) (λ c κs. search needs)
+    (λ c. search needs) (λ c. search needs) (λ c. search needs) (λ c κs. search needs)
+    (λ c κs. search needs) (λ c. search needs) (λ c. search needs) (λ c. search needs) returns
+    (λ c. search needs) bytes-until-requires
+    (λ c. search needs) (λ c. simp length-take (omega (arith, c .before .before .before .before .bytes-until .ensures .0))) (λ c κs. search needs)
     add-at
-    (λ c. search needs)
-    (λ c. search needs)
-    (λ c. search needs)
-    (λ c. search needs)
-    (λ c κs. search needs)
-    add-w
-    loop-less
-    loop-again
-    (λ c. search needs)
-    (λ c κs. search needs)
-    (λ c κs. search needs)
-    (λ c. search needs)
-    slice-aggregate-payload-in
-    (λ c κs. search needs)
-    (λ c. search needs)
-    (λ c. search needs)
-    (λ c. search needs)
-    send-line-requires
-    (λ c κs. search needs)
-    add-w-2
-    loop-less-2
-    loop-again-2
-    (λ c. search needs)
-    (λ c κs. search needs)
-    (λ c κs. search needs)
-    (λ c. search needs)
-    (λ c. search needs)
-    (λ c. search needs)
-    receive-line-requires
-    (λ c κs. search needs)
-    add-w-3
-    loop-less-3
-    loop-again-3
-    (λ c. search needs)
-    slice-aggregate-act
-    (λ c. search needs)
-    (λ c. search needs)
-    (λ c. search needs)
-    (λ c κs. search needs)
-    add-w-4
-    loop-less-4
-    loop-again-4
-    (λ c κs. search needs)
-    (λ c. search needs)
-    (λ c. search needs)
-    (λ c. search needs)
-    returns-2)
+    (λ c. search needs) (λ c. search needs) (λ c. search needs) (λ c. search needs) (λ c κs. search needs)
+    (λ c. fits (bad-frame c) (bad-arm c)) (λ c. less (bad-frame c)) (λ c. again (bad-frame c) (bad-arm c))
+    (λ c. search needs) (λ c κs. search needs) (λ c κs. search needs)
+    (λ c. search needs) (λ c. simp length-take (omega (arith, line (send-frame (c .before)) .bytes-until .ensures .0))) (λ c κs. search needs)
+    (λ c. search needs) (λ c. search needs) (λ c. search needs) send-line-requires (λ c κs. search needs)
+    (λ c. fits (send-frame (send-spot c)) (send-arm c)) (λ c. less (send-frame (send-spot c))) loop-again-2
+    (λ c. search needs) (λ c κs. search needs) (λ c κs. search needs)
+    (λ c. search needs) (λ c. search needs) (λ c. search needs) receive-line-requires (λ c κs. search needs)
+    (λ c. fits (receive-frame (receive-spot c)) (receive-arm c)) (λ c. less (receive-frame (receive-spot c))) loop-again-3
+    (λ c. search needs) (λ c. simp length-take (omega (arith, line (c .before .before .before) .bytes-until .ensures .0)))
+    (λ c. search needs) (λ c. search needs) (λ c. search needs) (λ c κs. search needs)
+    (λ c. fits (act-frame c) (act-arm c)) (λ c. less (act-frame c)) (λ c. again (act-frame c) (act-arm c))
+    (λ c κs. search needs) (λ c. search needs) (λ c. search needs) (λ c. search needs) returns-2)

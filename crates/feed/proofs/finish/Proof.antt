@@ -1,9 +1,4 @@
-use borrow.Author.Needs.{needs}
-use native.Mathlib.Omega.{arith}
-use native.Mathlib.Nat.{pos-of-ne-zero}
-use mathlib.Core.Path.{_≡_, refl}
-use lib.ListN.{length, take, length-take}
-use lib.Seq.{length-take-le}
+use Rattle.common.specs.Words.{needs, arith, pos-of-ne-zero, _≡_, refl, length, take, length-take, length-take-le}
 use Rattle.feed.specs.Step.{step-takes}
 use Rattle.feed.specs.Last.{last-none, last-line}
 use Rattle.feed.proofs.finish.Statement.{statement}

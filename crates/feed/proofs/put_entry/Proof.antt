@@ -1,7 +1,7 @@
 -- `feed::put_entry`: the two tests, and the store.
-use borrow.Author.Needs.{needs}
+use Rattle.common.specs.Words.{needs}
 use Rattle.common.specs.Tests.{tests}
-use Rattle.console.specs.Calls.{putEntry}
+use Rattle.console.specs.Entries.{putEntry}
 use Rattle.feed.proofs.put_entry.Statement.{statement}
 use Rattle.feed.proofs.put_entry.Tie as tie
 

@@ -1,7 +1,7 @@
 -- `feed::put_place`: the test, and the store.
-use borrow.Author.Needs.{needs}
+use Rattle.common.specs.Words.{needs}
 use Rattle.common.specs.Tests.{tests}
-use Rattle.console.specs.Calls.{putPlace}
+use Rattle.console.specs.Entries.{putPlace}
 use Rattle.feed.proofs.put_place.Statement.{statement}
 use Rattle.feed.proofs.put_place.Tie as tie
 

@@ -1,5 +1,5 @@
 -- `connected`: each return by the tests before it.
-use borrow.Author.Needs.{needs}
+use Rattle.common.specs.Words.{needs}
 use Rattle.common.specs.Tests.{tests}
 use Rattle.judge.proofs.connected.Statement.{statement}
 use Rattle.judge.proofs.connected.Tie as tie

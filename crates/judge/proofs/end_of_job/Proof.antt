@@ -1,8 +1,5 @@
 -- `end_of_job`: a release is at most the tick, so the sum fits.
-use mathlib.Core.Path.{ap, _∙_}
-use native.Mathlib.Nat.{div-mul-le-self}
-use native.Mathlib.Omega.{arith}
-use borrow.Author.Needs.{needs}
+use Rattle.common.specs.Words.{ap, _∙_, div-mul-le-self, arith, needs}
 use Rattle.model.specs.Model.{due}
 use Rattle.calendar.specs.Calendar.{tick}
 use Rattle.calendar.specs.declared.Job.{Job}

@@ -1,6 +1,5 @@
 -- `judge_wanting`: lines 11, 10 and 12, each return by the tests before it.
-use mathlib.Core.Path.{ap}
-use borrow.Author.Needs.{needs}
+use Rattle.common.specs.Words.{ap, needs}
 use Rattle.common.specs.Tests.{tests}
 use Rattle.calendar.specs.declared.Tick.{Tick}
 use Rattle.judge.proofs.judge_wanting.Statement.{statement}

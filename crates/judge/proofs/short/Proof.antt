@@ -1,5 +1,5 @@
 -- `short`: the test is the comparison itself.
-use borrow.Author.Needs.{needs}
+use Rattle.common.specs.Words.{needs}
 use Rattle.judge.proofs.short.Statement.{statement}
 use Rattle.judge.proofs.short.Tie as tie
 

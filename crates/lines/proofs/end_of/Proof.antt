@@ -1,7 +1,4 @@
-use borrow.Author.Needs.{needs}
-use mathlib.Core.Path.{_≡_, sym, _∙_}
-use Prim.Native.Nat.{_-_}
-use lib.ListN.{length}
+use Rattle.common.specs.Words.{needs, _≡_, sym, _∙_, _-_, length}
 use Rattle.lines.specs.Ends.{endOf, end-none, end-here, end-next}
 use Rattle.lines.proofs.end_of.Statement.{statement}
 use Rattle.lines.proofs.end_of.Tie as tie

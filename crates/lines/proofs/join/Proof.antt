@@ -1,4 +1,4 @@
-use borrow.Author.Needs.{needs}
+use Rattle.common.specs.Words.{needs}
 use Rattle.common.specs.Tests.{tests}
 use Rattle.lines.proofs.join.Statement.{statement}
 use Rattle.lines.proofs.join.Tie as tie

@@ -1,8 +1,4 @@
-use borrow.Author.Needs.{needs}
-use mathlib.Core.Path.{_≡_, ap, _∙_}
-use Prim.Native.Nat.{_-_, _≤_, min}
-use lib.ListN.{length, take, length-set}
-use lib.Seq.{sets}
+use Rattle.common.specs.Words.{needs, _≡_, ap, _∙_, _-_, _≤_, min, length, take, length-set, sets}
 use Rattle.common.specs.Stores.{sets-more}
 use Rattle.lines.specs.Lines.{kept}
 use Rattle.lines.specs.Held.{heldOf, take-least}

@@ -1,9 +1,4 @@
-use borrow.Author.Needs.{needs}
-use native.Mathlib.Omega.{arith}
-use lib.ListN.{drop, length-take}
-use mathlib.Core.Path.{_≡_, sym}
-use Prim.Native.Nat.{_+_, _-_, min}
-use borrow.Author.Tests.{le-ltb}
+use Rattle.common.specs.Words.{needs, arith, drop, length-take, _≡_, sym, _+_, _-_, min, le-ltb}
 use Rattle.lines.specs.Lines.{kept}
 use Rattle.lines.specs.Held.{cut-take}
 use Rattle.common.specs.Tests.{tests}

@@ -1,7 +1,4 @@
-use borrow.Author.Needs.{needs}
-use mathlib.Core.Logic.{⊎-elim}
-use mathlib.Core.Path.{_≡_, _∙_}
-use Prim.Native.Nat.{_-_, _≤_}
+use Rattle.common.specs.Words.{needs, ⊎-elim, _≡_, _∙_, _-_, _≤_}
 use Rattle.lines.specs.Ends.{stride, feedIn, feed-none, feed-here, feed-next}
 use Rattle.lines.proofs.near.Statement.{statement}
 use Rattle.lines.proofs.near.Tie as tie

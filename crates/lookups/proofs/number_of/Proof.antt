@@ -1,7 +1,5 @@
 -- `number_of`: the tests of the definition, in its order; what they leave is what the inner functions ask for.
-use borrow.Author.Needs.{needs}
-use mathlib.Core.Path.{sym, _∙_}
-use borrow.Author.Tests.{ltb-false}
+use Rattle.common.specs.Words.{needs, sym, _∙_, ltb-false}
 use Rattle.plan.specs.Sound.{sound-iff, usable}
 use Rattle.lookups.specs.Lookups.{numberedOf}
 use Rattle.common.specs.Tests.{failed, passed}

@@ -1,8 +1,5 @@
 -- `way_back`: the tests of the definition, in its order; what they leave is what the inner functions ask for.
-use borrow.Author.Needs.{needs}
-use native.Mathlib.Nat.{pos-of-ne-zero}
-use native.Mathlib.Omega.{arith}
-use borrow.Author.Tests.{le-ltb, lt-ltb, eq-eqb, ne-eqb}
+use Rattle.common.specs.Words.{needs, pos-of-ne-zero, arith, le-ltb, lt-ltb, eq-eqb, ne-eqb}
 use Rattle.plan.specs.Sound.{sound-iff, usable}
 use Rattle.lookups.specs.Lookups.{originsOf}
 use Rattle.common.specs.Tests.{failed, passed}

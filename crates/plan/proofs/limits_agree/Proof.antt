@@ -1,5 +1,5 @@
 -- Each limit of the definitions is the constant of the code.
-use mathlib.Core.Path.{refl}
+use Rattle.common.specs.Words.{refl}
 use Rattle.plan.proofs.limits_agree.Statement.{statement}
 use Rattle.plan.proofs.limits_agree.Tie as tie
 

@@ -1,7 +1,5 @@
 -- `planning::judged_table`: the first queue that breaks rule 4 or 5 breaks 4, or 5; where there is none the total decides.
-use native.Mathlib.Omega.{arith}
-use borrow.Author.Needs.{needs}
-use borrow.Author.Tests.{lt-ltb, le-ltb, not-true, not-false}
+use Rattle.common.specs.Words.{arith, needs, lt-ltb, le-ltb, not-true, not-false}
 use Rattle.plan.specs.Sound.{checked-usable}
 use Rattle.planning.specs.Planning.{slotsJudged, tableJudged}
 use Rattle.planning.specs.TableLaws.{long-within}

@@ -1,10 +1,5 @@
 -- `planning::make_plan`: each test in document 01's order, and what the tests passed so far say.
-use Prim.Native.Nat.{ℕ, _≤_}
-use native.Mathlib.Omega.{arith}
-use mathlib.Core.Bool.{Bool}
-use mathlib.Core.Path.{_≡_}
-use borrow.Author.Needs.{needs}
-use borrow.Author.Tests.{lt-ltb, le-ltb, not-true, not-false}
+use Rattle.common.specs.Words.{ℕ, _≤_, arith, Bool, _≡_, needs, lt-ltb, le-ltb, not-true, not-false}
 use Rattle.common.specs.Rows.{firstBad, firstBad-is}
 use Rattle.plan.specs.Facts.{counts-iff}
 use Rattle.planning.specs.Planning.{planOf}

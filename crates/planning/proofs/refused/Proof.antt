@@ -1,5 +1,5 @@
 -- `planning::refused`: the plan beside a refusal is that of all zeros.
-use borrow.Author.Needs.{needs}
+use Rattle.common.specs.Words.{needs}
 use Rattle.planning.proofs.refused.Statement.{statement}
 use Rattle.planning.proofs.refused.Tie as tie
 

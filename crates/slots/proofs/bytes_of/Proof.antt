@@ -1,6 +1,6 @@
 -- `bytes_of`: each byte is the definition's.
 use Rattle.slots.specs.Slots.{bytesOf}
-use borrow.Author.Needs.{needs}
+use Rattle.common.specs.Words.{needs}
 use Rattle.slots.proofs.bytes_of.Statement.{statement}
 use Rattle.slots.proofs.bytes_of.Tie as tie
 

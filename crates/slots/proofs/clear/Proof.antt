@@ -1,10 +1,5 @@
 -- `clear`: the first i bytes are zero, and the rest is as it was.
-use mathlib.Core.Path.{_≡_, refl}
-use mathlib.Core.List.{_++_}
-use Prim.Native.Nat.{_*_, _-_, _≤_}
-use native.Mathlib.Omega.{arith}
-use lib.ListN.{length, drop, replicate, length-set}
-use borrow.Author.Needs.{needs}
+use Rattle.common.specs.Words.{_≡_, refl, _++_, _*_, _-_, _≤_, arith, length, drop, replicate, length-set, needs}
 use borrow.Author.Fill.{fill-none, fill-more}
 use Rattle.slots.specs.Slots.{cleared}
 use Rattle.slots.proofs.clear.Statement.{statement}

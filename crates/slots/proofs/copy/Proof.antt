@@ -1,9 +1,5 @@
 -- `copy`: after k turns the first k bytes are stored.
-use mathlib.Core.Path.{_≡_}
-use Prim.Native.Nat.{_-_, _≤_}
-use lib.ListN.{length, take, length-set}
-use lib.Seq.{sets, take-all}
-use borrow.Author.Needs.{needs}
+use Rattle.common.specs.Words.{_≡_, _-_, _≤_, length, take, length-set, sets, take-all, needs}
 use Rattle.common.specs.Stores.{sets-more}
 use Rattle.slots.proofs.copy.Statement.{statement}
 use Rattle.slots.proofs.copy.Tie as tie

@@ -1,6 +1,6 @@
 -- `number_in`: two halves of four bytes make the number.
 use Rattle.slots.specs.Slots.{numberFrom}
-use borrow.Author.Needs.{needs}
+use Rattle.common.specs.Words.{needs}
 use Rattle.slots.proofs.number_in.Statement.{statement}
 use Rattle.slots.proofs.number_in.Tie as tie
 

@@ -1,9 +1,8 @@
 -- `store`: the number's run of bytes and the payload's behind it are one run.
-use Prim.Native.Nat.{_*_}
+use Rattle.common.specs.Words.{_*_, needs}
 use Rattle.common.specs.Stores.{sets-append}
 use Rattle.slots.specs.Slots.{stored, bytesOf}
 use Rattle.slots.specs.SlotLaws.{bytes-length}
-use borrow.Author.Needs.{needs}
 use Rattle.slots.proofs.store.Statement.{statement}
 use Rattle.slots.proofs.store.Tie as tie
 

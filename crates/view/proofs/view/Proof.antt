@@ -1,15 +1,9 @@
 -- `view`: one law for each way out, over the answer and the two references.
-use mathlib.Core.Path.{_≡_, refl, ap, _∙_}
-use mathlib.Core.Bool.{Bool, true, false, cond, _&&_}
-use mathlib.Core.List.{List, [], _∷_}
-use Prim.Native.Nat.{ℕ, _+_, _*_, _-_, _<_, _≤_}
-use native.Mathlib.Omega.{arith}
-use lib.ListN.{length, take, drop}
+use Rattle.common.specs.Words.{_≡_, refl, ap, _∙_, Bool, true, false, cond, _&&_, List, [], _∷_, ℕ, _+_, _*_, _-_, _<_, _≤_, arith, length, take}
+use Rattle.common.specs.Words.{drop, needs, ne-eqb, eq-eqb, lt-leb, le-leb}
 use types.Run.{OneOf, miss}
 use denote.Enum.Declared.{tagOf}
 use denote.Ref.{RefT, now}
-use borrow.Author.Needs.{needs}
-use borrow.Author.Tests.{ne-eqb, eq-eqb, lt-leb, le-leb}
 use Rattle.common.specs.Tests.{tests}
 use Rattle.calendar.specs.declared.Number.{Number}
 use Rattle.calendar.specs.declared.Slot.{Slot}

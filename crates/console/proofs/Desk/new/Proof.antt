@@ -1,5 +1,5 @@
 -- `console::Desk::new`: the plan of all zeros and the fresh state are what their makers say.
-use borrow.Author.Needs.{needs}
+use Rattle.common.specs.Words.{needs}
 use Rattle.console.proofs.Desk.new.Statement.{statement}
 use Rattle.console.proofs.Desk.new.Tie as tie
 

@@ -1,5 +1,5 @@
 -- `console::calls::left`: a clause of the definition for each kind of answer.
-use borrow.Author.Needs.{needs}
+use Rattle.common.specs.Words.{needs}
 use Rattle.console.proofs.calls.left.Statement.{statement}
 use Rattle.console.proofs.calls.left.Tie as tie
 

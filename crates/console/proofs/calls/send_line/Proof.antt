@@ -1,20 +1,21 @@
--- `console::calls::send_line`: by the answer; what an accepted send allows is known from some state with the numbers that were handed in.
-use borrow.Author.Needs.{needs}
-use borrow.Author.Tests.{not-true, not-false}
-use Prim.Native.Nat.{_<_}
-use Rattle.plan.specs.Limits.{taskLimit}
-use Rattle.console.specs.Calls.{sends-some, stored-fits, send-stopped, send-refused, send-stored}
+-- `console::calls::send_line`: by the answer. What the last lines ask for, an accepted send allows.
+use Rattle.common.specs.Words.{needs, not-true, not-false}
+use Rattle.console.specs.Stored.{stored-fits}
+use Rattle.console.specs.SendCalls.{send-stopped, send-refused, send-stored}
 use Rattle.console.proofs.calls.send_line.Statement.{statement}
 use Rattle.console.proofs.calls.send_line.Tie as tie
+
+-- from where the answer's case is tested: its line was written, and the message was sent
+abbrev answered : tie.After-slice-known5 → tie.After-write-sent
+answered c = c .before .before
+
+abbrev called : tie.After-slice-known5 → tie.After-send-on
+called c = answered c .before .before .before .before
 
 returns : tie.Need-returns
 returns c =
     let w = c .before .before in
-    let t = w .before .before in
-    let a = t .before .before .before .before .before .args in
-    λ d on.
-    send-stopped d (a .t1) (a .memory .now) (a .spot) (a .queue) (a .task) (a .at) (a .payload .now) on _ _ _
-    (not-true _ (t .if1 .taken)) (w .write-bad .ensures)
+    λ d on. send-stopped _ _ _ _ on (not-true _ (w .before .before .if1 .taken)) (w .write-bad .ensures)
 
 send-on-requires : tie.Need-send-on-requires
 send-on-requires c κs =
@@ -23,57 +24,39 @@ send-on-requires c κs =
 
 returns-2 : tie.Need-returns-2
 returns-2 c =
-    let w = c .before .before .before .before in
-    let o = w .before .before .before .before in
-    let e = o .before .before in
-    let a = e .before .before .before .before .before .args in
+    let k = c .before .before in
+    let o = called k in
     λ d on.
-    send-refused d (a .t1) (a .memory .now) (a .spot) (a .queue) (a .task) (a .at) (a .payload .now) on _ _ _ _ _
-    (not-false _ (e .if1 .left)) (o .send-on .ensures (d .state) (on .from)) (w .write-sent .ensures) _ (c .enum-told .given .1)
+    send-refused _ _ _ _ on (not-false _ (o .before .before .if1 .left)) (o .send-on .ensures) (answered k .write-sent .ensures)
+    (c .enum-told .given .1)
 
 mul-job-at : tie.Need-mul-job-at
 mul-job-at c =
-    let o = c .before .before .before .before .before .before .before .before in
-    let a = o .before .before .before .before .before .before .before .args in
-    let f = stored-fits _ (a .t1) (a .memory .now) (a .queue) (a .task) (a .at .0) (a .payload .now) _ _
-    (o .send-on .ensures _ (sends-some (a .queue) (a .task) (a .spot .tick) (a .spot .entry)) .0) (c .enum-told2 .given .1) in
-    let l : a .task < taskLimit = f .1 .0 in
+    let f = stored-fits _ _ (called (c .before .before) .send-on .ensures) (c .enum-told2 .given .1) .task-fits in
     search needs
 
 element-copy-out-job-at : tie.Need-element-copy-out-job-at
-element-copy-out-job-at c =
-    let o = c .before .before .before .before .before .before .before .before in
-    let a = o .before .before .before .before .before .before .before .args in
-    stored-fits _ (a .t1) (a .memory .now) (a .queue) (a .task) (a .at .0) (a .payload .now) _ _
-    (o .send-on .ensures _ (sends-some (a .queue) (a .task) (a .spot .tick) (a .spot .entry)) .0) (c .enum-told2 .given .1) .1 .0
+element-copy-out-job-at c = stored-fits _ _ (called (c .before .before) .send-on .ensures) (c .enum-told2 .given .1) .task-fits
 
 job-at-requires : tie.Need-job-at-requires
 job-at-requires c κs =
     let t = c .before in
-    let o = t .before .before .before .before .before .before .before .before in
-    let a = o .before .before .before .before .before .before .before .args in
-    stored-fits _ (a .t1) (a .memory .now) (a .queue) (a .task) (a .at .0) (a .payload .now) _ _
-    (o .send-on .ensures _ (sends-some (a .queue) (a .task) (a .spot .tick) (a .spot .entry)) .0) (t .enum-told2 .given .1) .1 .1 .0
+    stored-fits _ _ (called (t .before .before) .send-on .ensures) (t .enum-told2 .given .1) .period-counts
 
-add-t26 : tie.Need-add-t26
-add-t26 c =
+add-t31 : tie.Need-add-t31
+add-t31 c =
     let t = c .before .before .before in
-    let o = t .before .before .before .before .before .before .before .before in
-    let a = o .before .before .before .before .before .before .before .args in
-    let f = stored-fits _ (a .t1) (a .memory .now) (a .queue) (a .task) (a .at .0) (a .payload .now) _ _
-    (o .send-on .ensures _ (sends-some (a .queue) (a .task) (a .spot .tick) (a .spot .entry)) .0) (t .enum-told2 .given .1) in
-    record { fits = rw (c .before .job-at .ensures) (f .1 .1 .1) }
+    let f = stored-fits _ _ (called (t .before .before) .send-on .ensures) (t .enum-told2 .given .1) .job-fits in
+    record { fits = rw (c .before .job-at .ensures) f }
 
 returns-3 : tie.Need-returns-3
 returns-3 c =
     let t = c .before .before .before in
-    let w = t .before .before .before .before in
-    let o = w .before .before .before .before in
-    let e = o .before .before in
-    let a = e .before .before .before .before .before .args in
+    let k = t .before .before in
+    let o = called k in
     λ d on.
-    send-stored d (a .t1) (a .memory .now) (a .spot) (a .queue) (a .task) (a .at) (a .payload .now) on _ _ _ _ _
-    (not-false _ (e .if1 .left)) (o .send-on .ensures (d .state) (on .from)) (w .write-sent .ensures) _ _ _ (t .enum-told2 .given .1) (c .before .job-at .ensures)
+    send-stored _ _ _ _ on (not-false _ (o .before .before .if1 .left)) (o .send-on .ensures) (answered k .write-sent .ensures)
+    (t .enum-told2 .given .1) (c .before .job-at .ensures)
 
 pub send-line-spec : {M : Type 1} → statement M
 send-line-spec =
@@ -92,7 +75,7 @@ send-line-spec =
     mul-job-at
     element-copy-out-job-at
     job-at-requires
-    add-t26
+    add-t31
     (λ c. search needs)
     (λ c. search needs)
     returns-3)

@@ -1,7 +1,6 @@
 -- `console::run::receive`: the call's answer and state are those of the turn.
-use borrow.Author.Needs.{needs}
-use borrow.Author.Tests.{not-true, not-false}
-use Rattle.console.specs.Turns.{receive-stopped, receive-taken}
+use Rattle.common.specs.Words.{needs, not-true, not-false}
+use Rattle.console.specs.CallTurns.{receive-stopped, receive-taken}
 use Rattle.console.proofs.run.receive.Statement.{statement}
 use Rattle.console.proofs.run.receive.Tie as tie
 

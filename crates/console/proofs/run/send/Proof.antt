@@ -1,7 +1,6 @@
 -- `console::run::send`: the call's answer, state and memory are those of the turn.
-use borrow.Author.Needs.{needs}
-use borrow.Author.Tests.{not-true, not-false}
-use Rattle.console.specs.Turns.{send-stopped, send-taken}
+use Rattle.common.specs.Words.{needs, not-true, not-false}
+use Rattle.console.specs.CallTurns.{send-stopped, send-taken}
 use Rattle.console.proofs.run.send.Statement.{statement}
 use Rattle.console.proofs.run.send.Tie as tie
 

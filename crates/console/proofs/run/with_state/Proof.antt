@@ -1,5 +1,5 @@
 -- `console::run::with_state`: field by field.
-use mathlib.Core.Path.{refl}
+use Rattle.common.specs.Words.{refl}
 use Rattle.console.specs.Desk.{withState}
 use Rattle.console.proofs.run.with_state.Statement.{statement}
 use Rattle.console.proofs.run.with_state.Tie as tie

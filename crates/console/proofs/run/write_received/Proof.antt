@@ -1,15 +1,13 @@
 -- `console::run::write_received`: a line for each kind of answer; a view is no longer than a payload.
-use Prim.Native.Nat.{ℕ}
-use mathlib.Core.List.{List, [], _∷_}
+use Rattle.common.specs.Words.{ℕ, List, [], _∷_, needs}
 use types.Run.{OneOf, miss}
 use denote.Enum.Declared.{tagOf}
-use borrow.Author.Needs.{needs}
-use Rattle.mailbox.specs.declared.Received.{Received}
+use Rattle.console.specs.Types.{Received}
 use Rattle.mailbox.proofs.Received.{the-type}
 use Rattle.frames.specs.Answers.{emptyBytes}
 use Rattle.frames.specs.Writing.{Written}
 use Rattle.console.specs.Desk.{receivedBytes}
-use Rattle.console.specs.Turns.{view-short, message-line}
+use Rattle.console.specs.CallTurns.{view-short, message-line}
 use Rattle.console.proofs.run.write_received.Statement.{statement}
 use Rattle.console.proofs.run.write_received.Tie as tie
 
@@ -44,7 +42,8 @@ returns-4 c =
     let w = c .before .before in
     let k = w .before .before in
     let a = k .before .before .before .before .before .args in
-    empty-line (a .answer) (a .memory .now) _ _ _ (k .before .before .match .keys2) (k .before .match2 .keys2) (k .match3 .keys2) (w .write-empty .ensures)
+    empty-line (a .answer) (a .memory .now) _ _ _ (k .before .before .match .keys2) (k .before .match2 .keys2) (k .match3 .keys2)
+    (w .write-empty .ensures)
 
 pub write-received-spec : {M : Type 1} → statement M
 write-received-spec =

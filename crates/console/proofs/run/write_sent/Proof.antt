@@ -1,5 +1,5 @@
 -- `console::run::write_sent`: a line for each kind of answer.
-use borrow.Author.Needs.{needs}
+use Rattle.common.specs.Words.{needs}
 use Rattle.console.proofs.run.write_sent.Statement.{statement}
 use Rattle.console.proofs.run.write_sent.Tie as tie
 

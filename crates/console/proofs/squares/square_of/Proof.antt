@@ -1,8 +1,5 @@
 -- `console::squares::square_of`: the loop fills the square from the front, a row a turn.
-use Prim.Native.Nat.{ℕ, _-_, _≤_}
-use mathlib.Core.Path.{_≡_}
-use borrow.Author.Needs.{needs}
-use lib.ListN.{length, take, getD}
+use Rattle.common.specs.Words.{ℕ, _-_, _≤_, _≡_, needs, length, take, getD}
 use Rattle.common.specs.Table.{table, table-none, table-more, table-all}
 use Rattle.console.specs.Desk.{rowOf}
 use Rattle.console.proofs.squares.square_of.Statement.{statement}

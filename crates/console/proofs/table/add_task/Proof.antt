@@ -1,7 +1,5 @@
 -- `console::table::add_task`: the tests of a row more, in their order.
-use borrow.Author.Needs.{needs}
-use mathlib.Core.Path.{refl}
-use borrow.Author.Tests.{le-leb, lt-leb}
+use Rattle.common.specs.Words.{needs, refl, le-leb, lt-leb}
 use Rattle.console.specs.Desk.{withTask}
 use Rattle.console.specs.Turns.{row-running, row-beyond, row-added}
 use Rattle.console.proofs.table.add_task.Statement.{statement}

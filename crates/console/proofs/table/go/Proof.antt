@@ -1,6 +1,6 @@
 -- `console::table::go`: the answer of planning decides.
-use borrow.Author.Needs.{needs}
-use Rattle.console.specs.Turns.{go-running, go-refused, go-accepted}
+use Rattle.common.specs.Words.{needs}
+use Rattle.console.specs.Starts.{go-running, go-refused, go-accepted}
 use Rattle.console.proofs.table.go.Statement.{statement}
 use Rattle.console.proofs.table.go.Tie as tie
 

@@ -1,5 +1,5 @@
 -- `console::table::plan_of`: planning on the square of the masks.
-use borrow.Author.Needs.{needs}
+use Rattle.common.specs.Words.{needs}
 use Rattle.console.specs.Desk.{planned}
 use Rattle.console.proofs.table.plan_of.Statement.{statement}
 use Rattle.console.proofs.table.plan_of.Tie as tie

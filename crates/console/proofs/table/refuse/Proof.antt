@@ -1,6 +1,6 @@
 -- `console::table::refuse`: the line of the refusal was written.
 use Rattle.console.specs.Turns.{written}
-use borrow.Author.Needs.{needs}
+use Rattle.common.specs.Words.{needs}
 use Rattle.console.proofs.table.refuse.Statement.{statement}
 use Rattle.console.proofs.table.refuse.Tie as tie
 

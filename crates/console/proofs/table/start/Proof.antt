@@ -1,8 +1,7 @@
 -- `console::table::start`: the answer of start decides; a started plan has at most eight queues to tell of.
-use borrow.Author.Needs.{needs}
-use mathlib.Core.Path.{_∙_, sym, ap}
-use Rattle.mailbox.specs.declared.Starting.{Starting}
-use Rattle.console.specs.Turns.{started-queues, start-refused, start-ready}
+use Rattle.common.specs.Words.{needs, _∙_, sym, ap}
+use Rattle.console.specs.Types.{Starting}
+use Rattle.console.specs.Starts.{started-queues, start-refused, start-ready}
 use Rattle.console.proofs.table.start.Statement.{statement}
 use Rattle.console.proofs.table.start.Tie as tie
 

@@ -1,5 +1,5 @@
 -- `console::table::with_run`: field by field.
-use mathlib.Core.Path.{refl}
+use Rattle.common.specs.Words.{refl}
 use Rattle.console.specs.Desk.{withRun}
 use Rattle.console.proofs.table.with_run.Statement.{statement}
 use Rattle.console.proofs.table.with_run.Tie as tie

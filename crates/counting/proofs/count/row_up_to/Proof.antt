@@ -1,5 +1,5 @@
 -- `count::row_up_to`: one row's share.
-use borrow.Author.Needs.{needs}
+use Rattle.common.specs.Words.{needs}
 use Rattle.counting.proofs.count.row_up_to.Statement.{statement}
 use Rattle.counting.proofs.count.row_up_to.Tie as tie
 

@@ -1,68 +1,65 @@
--- `number::number_due`: over the rows passed, the sum and their followers are together the messages up to the tick.
-use borrow.Author.Needs.{needs}
-use Prim.Native.Nat.{_+_, _≤_, _*_, _-_}
-use mathlib.Core.Path.{_≡_, refl}
-use native.Mathlib.Nat.{mul-le-mul-right}
-use native.Mathlib.Omega.{arith}
-use Rattle.common.specs.Totals.{sum, sum-next}
-use Rattle.model.specs.Model.{rowUpTo, rowFollowers, dueAt, upTo, followers}
+-- `number::number_due`: the loop keeps the sum over the rows passed, each up to the task's message.
+use Rattle.common.specs.Words.{needs, _+_, _≤_, _-_, _≡_, refl, arith}
+use Rattle.common.specs.Totals.{sum, sum-next, sum-up}
 use Rattle.counting.specs.Columns.{columnsAt}
-use Rattle.counting.specs.Bounds.{row-positive, rowUpTo-le}
+use Rattle.counting.specs.Bounds.{row-positive, upTo-fits}
+use Rattle.counting.specs.Until.{rowUntil, until-all}
 use Rattle.counting.proofs.number.number_due.Statement.{statement}
 use Rattle.counting.proofs.number.number_due.Tie as tie
 
 abbrev Inv-loop : tie.InvT-loop
-Inv-loop sends period deadline tasks queue at task base sum₀ i₀ sum i =
-    let q = columnsAt sends period deadline tasks queue in
-    (i ≤ tasks)
-    × (sum + Rattle.common.specs.Totals.sum (rowFollowers q (at .0) task) i ≡ Rattle.common.specs.Totals.sum (rowUpTo q (at .0)) i)
-    × (sum ≤ i * at .0)
+Inv-loop sends period deadline tasks queue at task base before sum₀ i₀ sum i =
+    (i ≤ tasks) × (sum ≡ Rattle.common.specs.Totals.sum (rowUntil (columnsAt sends period deadline tasks queue) (at .0) task) i)
 
 abbrev μ-loop : tie.MeasureT-loop
-μ-loop sends period deadline tasks queue at task base sum₀ i₀ sum i = tasks - i
+μ-loop sends period deadline tasks queue at task base before sum₀ i₀ sum i = tasks - i
 
 loop-holds : tie.Need-loop-holds Inv-loop μ-loop
 unfolding sum
-loop-holds c = (omega arith, refl, omega arith)
+loop-holds c = (omega arith, refl)
 
-row-share-requires : tie.Need-row-share-requires Inv-loop μ-loop
-row-share-requires c κs =
-    let l = c .before .before .before .before .before in
-    row-positive (l .before .pre .0) (l .loop .i) (omega arith)
+row-up-to-requires : tie.Need-row-up-to-requires Inv-loop μ-loop
+row-up-to-requires c κs =
+    let l = c .before .before .before .before .before .before in
+    row-positive (l .before .before .pre .0) (l .loop .i) (omega arith)
 
--- i rows of at most `at` messages, and one more, are at most 16 * lastTick
+-- no part of the sum is more than all messages up to the tick
 add-sum : tie.Need-add-sum Inv-loop μ-loop
 add-sum c =
-    let l = c .before .before .before .before .before .before in
-    let a = l .before .args in
-    let u = l .before .pre .0 in
+    let u = c .before .before .before .before in
+    let l = u .before .before .before in
+    let k = l .before .before in
+    let a = k .args in
+    let q = columnsAt (a .sends .now) (a .period .now) (a .deadline .now) (a .tasks) (a .queue) in
+    let f = rowUntil q (a .at .0) (a .task) in
     omega (
       arith,
-      c .row-share .ensures,
-      rowUpTo-le u (a .at .0) (l .loop .i) (omega arith),
-      mul-le-mul-right {m = l .loop .i} {n = 16} (a .at .0) (omega (arith, u .tasks-fit)),
+      rw (u .last-counted .ensures, u .before .precedes .ensures q, l .before .tick-before .ensures) at (c .row-up-to .ensures),
+      sum-next f (l .loop .i),
+      sum-up f (l .loop .i + 1) (a .tasks) (omega arith),
+      until-all q (k .pre .0 .valid) (a .at .0) (a .task),
+      upTo-fits (k .pre .0) (a .at .0) (k .pre .1),
     )
 
 loop-again : tie.Need-loop-again Inv-loop μ-loop
-unfolding dueAt
 loop-again c =
-    let p = c .before .before .before .before in
-    let l = p .before .before in
-    let a = l .before .args in
+    let u = c .before .before .before .before in
+    let l = u .before .before .before in
+    let a = l .before .before .args in
     let q = columnsAt (a .sends .now) (a .period .now) (a .deadline .now) (a .tasks) (a .queue) in
     omega (
       arith,
-      rw (p .precedes .ensures q) at (c .row-share .ensures),
-      rowUpTo-le (l .before .pre .0) (a .at .0) (l .loop .i) (omega arith),
-      sum-next (rowUpTo q (a .at .0)) (l .loop .i),
-      sum-next (rowFollowers q (a .at .0) (a .task)) (l .loop .i),
+      rw (u .last-counted .ensures, u .before .precedes .ensures q, l .before .tick-before .ensures) at (c .row-up-to .ensures),
+      sum-next (rowUntil q (a .at .0) (a .task)) (l .loop .i),
     )
 
 returns : tie.Need-returns Inv-loop μ-loop
-unfolding upTo followers
 returns c =
-    let e : c .before .loop .i ≡ c .before .before .args .tasks = omega arith in
-    omega (arith, rw e at (c .before .loop .inv .1))
+    let k = c .before .before .before in
+    let a = k .args in
+    let q = columnsAt (a .sends .now) (a .period .now) (a .deadline .now) (a .tasks) (a .queue) in
+    let e : c .before .loop .i ≡ a .tasks = omega arith in
+    omega (arith, rw e at (c .before .loop .inv .1), until-all q (k .pre .0 .valid) (a .at .0) (a .task))
 
 pub number-due-spec : {M : Type 1} → statement M
 number-due-spec =
@@ -71,7 +68,9 @@ number-due-spec =
     Inv-loop
     μ-loop
     (λ c. search needs)
+    (λ c κs. search needs)
     loop-holds
+    (λ c κs. search needs)
     (λ c κs. search needs)
     (λ c. search needs)
     (λ c. search needs)
@@ -79,7 +78,7 @@ number-due-spec =
     (λ c. search needs)
     (λ c. search needs)
     (λ c. search needs)
-    row-share-requires
+    row-up-to-requires
     add-sum
     (λ c. search needs)
     (λ c. search needs)

@@ -1,5 +1,5 @@
 -- `number::precedes`: the model's rule for equal deadlines, word for word.
-use mathlib.Core.Path.{refl}
+use Rattle.common.specs.Words.{refl}
 use Rattle.model.specs.Model.{precedes}
 use Rattle.counting.proofs.number.precedes.Statement.{statement}
 use Rattle.counting.proofs.number.precedes.Tie as tie

@@ -1,5 +1,5 @@
 -- `sender::due`: a task that sends is asked for its deadline.
-use borrow.Author.Needs.{needs}
+use Rattle.common.specs.Words.{needs}
 use Rattle.counting.proofs.sender.due.Statement.{statement}
 use Rattle.counting.proofs.sender.due.Tie as tie
 

@@ -1,9 +1,5 @@
 -- `sender::sender_at`: the loop has found no row so far.
-use borrow.Author.Needs.{needs}
-use Prim.Native.Nat.{ℕ, _+_, _-_, _<_, _≤_}
-use native.Mathlib.Omega.{arith}
-use mathlib.Core.Bool.{Bool, true, false, not}
-use mathlib.Core.Path.{_≡_, sym}
+use Rattle.common.specs.Words.{needs, ℕ, _+_, _-_, _<_, _≤_, arith, Bool, true, false, not, _≡_, sym}
 use Rattle.common.specs.Rows.{firstBad, firstBad-none, firstBad-more, firstBad-found}
 use Rattle.model.specs.Model.{sentBy}
 use Rattle.counting.specs.Columns.{columnsAt}

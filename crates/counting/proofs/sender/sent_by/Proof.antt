@@ -1,6 +1,5 @@
 -- `sender::sent_by`: the two tests of the definition.
-use borrow.Author.Needs.{needs}
-use mathlib.Core.Path.{sym, _∙_}
+use Rattle.common.specs.Words.{needs, sym, _∙_}
 use Rattle.model.specs.Model.{dueAt}
 use Rattle.counting.specs.Bounds.{row-positive}
 use Rattle.counting.proofs.sender.sent_by.Statement.{statement}

@@ -1,7 +1,5 @@
 -- `sender::tick_between`: the loop keeps fewer than n messages up to `early` and n or more up to `late`.
-use Prim.Native.Nat.{_≤_, _<_, _-_}
-use native.Mathlib.Omega.{arith}
-use mathlib.Core.Path.{_≡_}
+use Rattle.common.specs.Words.{_≤_, _<_, _-_, arith, _≡_}
 use Rattle.model.specs.Model.{upTo}
 use Rattle.model.specs.WayBack.{tickOf-is}
 use Rattle.plan.specs.Limits.{lastTick}

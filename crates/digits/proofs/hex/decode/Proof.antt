@@ -1,13 +1,9 @@
 -- `digits::hex::decode`: the loop fills the buffer from the front, and has met no pair but of digits.
-use Prim.Native.Nat.{_-_, _/_, _≤_}
-use mathlib.Core.Path.{_≡_, refl}
-use lib.ListN.{length, length-set}
-use lib.Seq.{sets}
-use borrow.Author.Needs.{needs}
+use Rattle.common.specs.Words.{_-_, _/_, _≤_, _≡_, refl, length, length-set, sets, needs}
 use Rattle.common.specs.Table.{table}
 use Rattle.common.specs.Rows.{firstBad, firstBad-none, firstBad-more}
 use Rattle.digits.specs.Hex.{byteAt, pairAt}
-use Rattle.digits.specs.HexLaws.{joined-byte, joined-none, sets-table, decoded-long, decoded-odd, decoded-stops, decoded-all}
+use Rattle.digits.specs.HexLaws.{pair-byte, pair-none, sets-table, decoded-long, decoded-odd, decoded-stops, decoded-all}
 use Rattle.digits.proofs.hex.decode.Statement.{statement}
 use Rattle.digits.proofs.hex.decode.Tie as tie
 
@@ -35,7 +31,7 @@ returns-3 c =
     let l = c .before .before .before .before .before in
     let a = l .before .before .before .before .before .args in
     let line = a .line .now in
-    let none = joined-none line (l .loop .k) (rw (← c .before .byte-of .ensures) (search needs)) in
+    let none = pair-none line (l .loop .k) (rw (← c .before .byte-of .ensures) (search needs)) in
     rw (l .loop .inv .2)
     (decoded-stops line (a .bytes .now) (search needs) (l .before .if2 .left) (l .loop .k) (search needs) (l .loop .inv .3) none)
 
@@ -44,11 +40,11 @@ loop-again c =
     let l = c .before .before .before .before .before in
     let a = l .before .before .before .before .before .args in
     let line = a .line .now in
-    let pair = joined-byte line (l .loop .k) (rw (← c .before .byte-of .ensures) (search needs)) in (
+    let pair = pair-byte line (l .loop .k) (rw (← c .before .byte-of .ensures) (search needs)) in (
       search needs,
       simp length-set (l .loop .inv .1),
-      rw (l .loop .inv .2, c .before .byte-of .ensures, pair .1) (sets-table (byteAt line) (a .bytes .now) (l .loop .k)),
-      firstBad-more (pairAt line) (l .loop .k) (l .loop .inv .3) (pair .0),
+      rw (l .loop .inv .2, c .before .byte-of .ensures) (sets-table (byteAt line) (a .bytes .now) (l .loop .k)),
+      firstBad-more (pairAt line) (l .loop .k) (l .loop .inv .3) pair,
     )
 
 returns-4 : tie.Need-returns-4 Inv-loop μ-loop

@@ -1,5 +1,5 @@
 -- `digits::hex::letter_of`: a test of the definition for each test of the code.
-use borrow.Author.Needs.{needs}
+use Rattle.common.specs.Words.{needs}
 use Rattle.common.specs.Tests.{tests}
 use Rattle.digits.proofs.hex.letter_of.Statement.{statement}
 use Rattle.digits.proofs.hex.letter_of.Tie as tie

@@ -1,8 +1,5 @@
 -- `digits::hex::put_byte`: two stores are a run of two.
-use borrow.Author.Needs.{needs}
-use native.Mathlib.Omega.{arith}
-use native.Mathlib.Numerals.{add-one}
-use lib.ListN.{length-set}
+use Rattle.common.specs.Words.{needs, arith, add-one, length-set}
 use Rattle.digits.specs.Hex.{digits}
 use Rattle.digits.proofs.hex.put_byte.Statement.{statement}
 use Rattle.digits.proofs.hex.put_byte.Tie as tie

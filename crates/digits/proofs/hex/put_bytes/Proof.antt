@@ -1,9 +1,5 @@
 -- `digits::hex::put_bytes`: a turn writes the digits of one byte more.
-use Prim.Native.Nat.{_-_, _≤_}
-use mathlib.Core.Path.{_≡_, refl, ap, _∙_}
-use lib.ListN.{length, take}
-use lib.Seq.{sets, take-all, length-sets}
-use borrow.Author.Needs.{needs}
+use Rattle.common.specs.Words.{_-_, _≤_, _≡_, refl, ap, _∙_, length, take, sets, take-all, length-sets, needs}
 use Rattle.digits.specs.Hex.{digits}
 use Rattle.digits.specs.HexLaws.{digits-more}
 use Rattle.digits.proofs.hex.put_bytes.Statement.{statement}

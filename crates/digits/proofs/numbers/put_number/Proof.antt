@@ -1,10 +1,5 @@
 -- `digits::numbers::put_number`: a turn writes the last byte of what is left.
-use Prim.Native.Nat.{_+_, _-_, _≤_}
-use mathlib.Core.Path.{_≡_, refl, sym, ap, _∙_}
-use native.Mathlib.Omega.{arith}
-use lib.ListN.{length}
-use lib.Seq.{sets, length-sets}
-use borrow.Author.Needs.{needs}
+use Rattle.common.specs.Words.{_+_, _-_, _≤_, _≡_, refl, sym, ap, _∙_, arith, length, sets, length-sets, needs}
 use Rattle.digits.specs.Hex.{digits}
 use Rattle.digits.specs.Numbers.{inBytes}
 use Rattle.digits.specs.NumberLaws.{write-none, write-more}

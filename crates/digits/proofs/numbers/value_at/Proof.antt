@@ -1,8 +1,5 @@
 -- `digits::numbers::value_at`: a turn takes in one byte more, and the number stays below 256 to the bytes read.
-use Prim.Native.Nat.{_-_, _^_, _≤_, _<_}
-use mathlib.Core.Path.{_≡_, sym}
-use native.Mathlib.Omega.{arith}
-use borrow.Author.Needs.{needs}
+use Rattle.common.specs.Words.{_-_, _^_, _≤_, _<_, _≡_, sym, arith, needs}
 use Rattle.digits.specs.Numbers.{valueAt}
 use Rattle.digits.specs.NumberLaws.{value-none, value-more, below-more, below-word}
 use Rattle.digits.proofs.numbers.value_at.Statement.{statement}

@@ -1,9 +1,5 @@
 -- `frames::answers::put_sizes`: a turn writes one size more.
-use Prim.Native.Nat.{_-_, _≤_}
-use mathlib.Core.Path.{_≡_, refl, sym, ap, _∙_}
-use lib.ListN.{length}
-use lib.Seq.{sets, length-sets}
-use borrow.Author.Needs.{needs}
+use Rattle.common.specs.Words.{_-_, _≤_, _≡_, refl, sym, ap, _∙_, length, sets, length-sets, needs}
 use Rattle.digits.specs.Hex.{digits}
 use Rattle.frames.specs.Answers.{eachSize}
 use Rattle.frames.specs.Writing.{sizes-none, sizes-more}

@@ -1,6 +1,5 @@
 -- `frames::answers::write_bad`: a line of one number.
-use borrow.Author.Needs.{needs}
-use native.Mathlib.Omega.{arith}
+use Rattle.common.specs.Words.{needs, arith}
 use Rattle.digits.specs.Numbers.{inBytes}
 use Rattle.digits.specs.NumberLaws.{bytes-length}
 use Rattle.frames.specs.Answers.{badBytes}

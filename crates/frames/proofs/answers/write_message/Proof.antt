@@ -1,8 +1,5 @@
 -- `frames::answers::write_message`: a line of two numbers and the payload.
-use Prim.Native.Nat.{_+_, _*_}
-use borrow.Author.Needs.{needs}
-use native.Mathlib.Omega.{arith}
-use lib.ListN.{length}
+use Rattle.common.specs.Words.{_+_, _*_, needs, arith, length}
 use Rattle.digits.specs.Numbers.{inBytes}
 use Rattle.digits.specs.NumberLaws.{bytes-length}
 use Rattle.frames.specs.Answers.{messageBytes}

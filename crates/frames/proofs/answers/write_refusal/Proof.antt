@@ -1,6 +1,5 @@
 -- `frames::answers::write_refusal`: a line of three numbers.
-use borrow.Author.Needs.{needs}
-use native.Mathlib.Omega.{arith}
+use Rattle.common.specs.Words.{needs, arith}
 use Rattle.plan.specs.Refusals.{numberOf}
 use Rattle.digits.specs.Numbers.{inBytes}
 use Rattle.digits.specs.NumberLaws.{bytes-length}

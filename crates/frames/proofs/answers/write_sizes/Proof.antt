@@ -1,10 +1,5 @@
 -- `frames::answers::write_sizes`: a line of a number and the sizes.
-use Prim.Native.Nat.{_+_, _*_}
-use mathlib.Core.Path.{_≡_}
-use mathlib.Core.List.{_++_}
-use lib.ListN.{length, length-append}
-use borrow.Author.Needs.{needs}
-use native.Mathlib.Omega.{arith}
+use Rattle.common.specs.Words.{_+_, _*_, _≡_, _++_, length, length-append, needs, arith}
 use Rattle.digits.specs.Numbers.{inBytes}
 use Rattle.digits.specs.NumberLaws.{bytes-length}
 use Rattle.frames.specs.Answers.{eachSize, sizesBytes}

@@ -1,7 +1,7 @@
 -- `frames::frame::frame_of`: the first byte decides.
 use Rattle.common.specs.Tests.{tests}
 use Rattle.frames.specs.Frames.{frameOf}
-use borrow.Author.Needs.{needs}
+use Rattle.common.specs.Words.{needs}
 use Rattle.frames.proofs.frame.frame_of.Statement.{statement}
 use Rattle.frames.proofs.frame.frame_of.Tie as tie
 

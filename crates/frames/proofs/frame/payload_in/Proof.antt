@@ -1,12 +1,6 @@
 -- `frames::frame::payload_in`: what lies behind the first eight bytes, if anything does.
-use Prim.Native.Nat.{ℕ, _-_, _≤_}
-use native.Mathlib.Omega.{arith}
-use mathlib.Core.List.{List, []}
-use mathlib.Core.Path.{_≡_, sym}
-use lib.ListN.{length, drop, length-drop}
-use lib.Seq.{take-all, ext-getD}
+use Rattle.common.specs.Words.{ℕ, _-_, _≤_, arith, List, [], _≡_, sym, length, drop, length-drop, take-all, ext-getD, needs}
 use Rattle.frames.specs.Frames.{payloadIn}
-use borrow.Author.Needs.{needs}
 use Rattle.frames.proofs.frame.payload_in.Statement.{statement}
 use Rattle.frames.proofs.frame.payload_in.Tie as tie
 

@@ -1,6 +1,6 @@
 -- `frames::frame::receive_in`: the length decides.
 use Rattle.common.specs.Tests.{tests}
-use borrow.Author.Needs.{needs}
+use Rattle.common.specs.Words.{needs}
 use Rattle.frames.proofs.frame.receive_in.Statement.{statement}
 use Rattle.frames.proofs.frame.receive_in.Tie as tie
 

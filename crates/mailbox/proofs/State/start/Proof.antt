@@ -1,6 +1,5 @@
 -- `State::start`: rule 7, and then by the verdict on 8.
-use mathlib.Core.Path.{refl, sym}
-use borrow.Author.Needs.{needs}
+use Rattle.common.specs.Words.{refl, sym, needs}
 use Rattle.common.specs.Tests.{failed, passed}
 use Rattle.plan.specs.Refusals.{unnamed}
 use Rattle.plan.specs.declared.refusal.Rule.the-variants.{UnsoundPlan}

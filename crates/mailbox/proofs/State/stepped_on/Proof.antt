@@ -1,5 +1,5 @@
 -- `State::stepped_on`: a clause of the definition for each kind of answer.
-use borrow.Author.Needs.{needs}
+use Rattle.common.specs.Words.{needs}
 use Rattle.mailbox.proofs.State.stepped_on.Statement.{statement}
 use Rattle.mailbox.proofs.State.stepped_on.Tie as tie
 

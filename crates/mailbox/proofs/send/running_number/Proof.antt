@@ -1,6 +1,5 @@
 -- `send::running_number`: equation 2 at the running job's deadline.
-use native.Mathlib.Omega.{arith}
-use borrow.Author.Needs.{needs}
+use Rattle.common.specs.Words.{arith, needs}
 use Rattle.model.specs.Model.{number}
 use Rattle.counting.specs.Bounds.{row-positive}
 use Rattle.mailbox.proofs.send.running_number.Statement.{statement}

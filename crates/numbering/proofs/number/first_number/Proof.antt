@@ -1,8 +1,5 @@
 -- `number::first_number`: job 0's window starts at 1; the job before any other is released within the last tick too.
-use borrow.Author.Needs.{needs}
-use Prim.Native.Nat.{_-_, _*_, _≤_}
-use native.Mathlib.Nat.{mul-le-mul-right}
-use native.Mathlib.Omega.{arith}
+use Rattle.common.specs.Words.{needs, _-_, _*_, _≤_, mul-le-mul-right, arith}
 use Rattle.model.specs.Model.{receiverPeriod, last}
 use Rattle.model.specs.Window.{window-zero}
 use Rattle.plan.specs.Limits.{lastTick}

@@ -1,5 +1,5 @@
 -- `number::last_number`: the messages up to the job's release.
-use borrow.Author.Needs.{needs}
+use Rattle.common.specs.Words.{needs}
 use Rattle.model.specs.Model.{last}
 use Rattle.numbering.proofs.number.last_number.Statement.{statement}
 use Rattle.numbering.proofs.number.last_number.Tie as tie

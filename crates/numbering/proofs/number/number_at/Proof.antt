@@ -1,5 +1,5 @@
 -- `number::number_at`: equation 2 at the job's deadline.
-use borrow.Author.Needs.{needs}
+use Rattle.common.specs.Words.{needs}
 use Rattle.model.specs.Model.{number}
 use Rattle.counting.specs.Columns.{lent, numberDue-columns}
 use Rattle.numbering.proofs.number.number_at.Statement.{statement}

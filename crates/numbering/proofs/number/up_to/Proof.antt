@@ -1,5 +1,5 @@
 -- `number::up_to`: the columns lent are the plan's own.
-use mathlib.Core.Path.{_∙_}
+use Rattle.common.specs.Words.{_∙_}
 use Rattle.counting.specs.Columns.{lent, upTo-columns}
 use Rattle.numbering.proofs.number.up_to.Statement.{statement}
 use Rattle.numbering.proofs.number.up_to.Tie as tie

@@ -1,9 +1,5 @@
 -- `origin::origin_of`: the tick and the row that were found are those of the message with the number.
-use Prim.Native.Nat.{ℕ, _<_, _≤_}
-use native.Mathlib.Omega.{arith}
-use mathlib.Core.Bool.{not}
-use mathlib.Core.Path.{_≡_, ap, _∙_}
-use lib.ListN.{getD}
+use Rattle.common.specs.Words.{ℕ, _<_, _≤_, arith, not, _≡_, ap, _∙_, getD}
 use Rattle.common.specs.Rows.{firstBad}
 use Rattle.common.specs.Tests.{having}
 use Rattle.model.specs.Model.{upTo, followers, dueAt, precedes, tickOf, sentBy, senderOf, jobOf}

@@ -1,5 +1,5 @@
 -- `reach::connected`: the definition's tests, in its order.
-use borrow.Author.Needs.{needs}
+use Rattle.common.specs.Words.{needs}
 use Rattle.common.specs.Tests.{tests}
 use Rattle.numbering.proofs.reach.connected.Statement.{statement}
 use Rattle.numbering.proofs.reach.connected.Tie as tie

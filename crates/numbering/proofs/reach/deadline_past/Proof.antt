@@ -1,6 +1,5 @@
 -- `reach::deadline_past`: a task of a usable plan has a period and a deadline within the limit.
-use borrow.Author.Needs.{needs}
-use native.Mathlib.Omega.{arith}
+use Rattle.common.specs.Words.{needs, arith}
 use Rattle.numbering.specs.Bounds.{row-positive}
 use Rattle.numbering.proofs.reach.deadline_past.Statement.{statement}
 use Rattle.numbering.proofs.reach.deadline_past.Tie as tie

@@ -1,9 +1,5 @@
 -- `reach::past_last`: a job past the last tick is due past it; any other's tick is at most lastTick * longestPeriod + longestPeriod.
-use Prim.Native.Nat.{_+_, _*_}
-use native.Mathlib.Nat.{mul-le-mul, mul-le-mul-left, mul-one}
-use native.Mathlib.Omega.{arith}
-use mathlib.Core.Path.{sym}
-use borrow.Author.Tests.{lt-ltb}
+use Rattle.common.specs.Words.{_+_, _*_, mul-le-mul, mul-le-mul-left, mul-one, arith, sym, lt-ltb}
 use Rattle.plan.specs.Limits.{lastTick}
 use Rattle.numbering.proofs.reach.past_last.Statement.{statement}
 use Rattle.numbering.proofs.reach.past_last.Tie as tie

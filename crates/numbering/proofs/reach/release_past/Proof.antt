@@ -1,7 +1,5 @@
 -- `reach::release_past`: the receiver of a usable queue is a task.
-use borrow.Author.Needs.{needs}
-use native.Mathlib.Nat.{add-zero}
-use native.Mathlib.Omega.{arith}
+use Rattle.common.specs.Words.{needs, add-zero, arith}
 use Rattle.numbering.specs.Bounds.{row-positive}
 use Rattle.numbering.proofs.reach.release_past.Statement.{statement}
 use Rattle.numbering.proofs.reach.release_past.Tie as tie

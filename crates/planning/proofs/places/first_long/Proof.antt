@@ -1,9 +1,5 @@
 -- `planning::places::first_long`: no queue below the loop's counter is bad.
-use Prim.Native.Nat.{_-_, _≤_}
-use mathlib.Core.Bool.{_&&_}
-use mathlib.Core.Path.{_≡_, sym}
-use borrow.Author.Needs.{needs}
-use borrow.Author.Tests.{not-true, not-false}
+use Rattle.common.specs.Words.{_-_, _≤_, _&&_, _≡_, sym, needs, not-true, not-false}
 use Rattle.common.specs.Rows.{firstBad, firstBad-none, firstBad-more, firstBad-found}
 use Rattle.plan.specs.Sound.{checked-usable}
 use Rattle.sizing.specs.Cycle.{cycleShort, messagesFew}

@@ -1,10 +1,5 @@
 -- `planning::places::places_of` fills its array from the front, with the sum of the sizes passed.
-use Prim.Native.Nat.{ℕ, _*_, _-_, _≤_}
-use native.Mathlib.Omega.{arith}
-use mathlib.Core.Path.{_≡_}
-use borrow.Author.Needs.{needs}
-use lib.Dec.{ltb}
-use lib.ListN.{length, take, getD}
+use Rattle.common.specs.Words.{ℕ, _*_, _-_, _≤_, arith, _≡_, needs, ltb, length, take, getD}
 use Rattle.common.specs.Totals.{only, sum, sum-none, sum-next}
 use Rattle.common.specs.Table.{table, table-none, table-more, table-all}
 use Rattle.sizing.specs.Bounds.{largestSize}

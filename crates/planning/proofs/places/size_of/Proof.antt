@@ -1,10 +1,5 @@
 -- `planning::places::size_of`: no counted queue's hyperperiod is over the limit, so its least size is the greatest need over it.
-use Prim.Native.Nat.{ℕ, _<_, _≤_}
-use native.Mathlib.Omega.{arith}
-use mathlib.Core.Bool.{_&&_}
-use mathlib.Core.Path.{_≡_, sym, _∙_}
-use borrow.Author.Needs.{needs}
-use borrow.Author.Tests.{leb-true, lt-ltb}
+use Rattle.common.specs.Words.{ℕ, _<_, _≤_, arith, _&&_, _≡_, sym, _∙_, needs, leb-true, lt-ltb}
 use Rattle.common.specs.Tests.{tests, and-left}
 use Rattle.common.specs.Rows.{firstBad-is}
 use Rattle.model.specs.Model.{hyperperiod, slots}

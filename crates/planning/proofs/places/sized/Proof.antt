@@ -1,7 +1,5 @@
 -- `planning::places::sized`: the sizes are the least ones, and their total decides rule 6.
-use Prim.Native.Nat.{_<_, _≤_}
-use borrow.Author.Needs.{needs}
-use borrow.Author.Tests.{lt-ltb, le-ltb}
+use Rattle.common.specs.Words.{_<_, _≤_, needs, lt-ltb, le-ltb}
 use Rattle.common.specs.Totals.{sum}
 use Rattle.plan.specs.Limits.{mostSlots}
 use Rattle.planning.specs.Planning.{leastSize, sized, slotsJudged}

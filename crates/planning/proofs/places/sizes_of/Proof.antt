@@ -1,9 +1,5 @@
 -- `planning::places::sizes_of` fills its array from the front.
-use Prim.Native.Nat.{_-_, _≤_}
-use mathlib.Core.Path.{_≡_}
-use borrow.Author.Needs.{needs}
-use lib.Dec.{ltb}
-use lib.ListN.{length, take}
+use Rattle.common.specs.Words.{_-_, _≤_, _≡_, needs, ltb, length, take}
 use Rattle.common.specs.Totals.{only}
 use Rattle.common.specs.Table.{table, table-none, table-more, table-all}
 use Rattle.planning.specs.Planning.{leastSize}

@@ -1,9 +1,5 @@
 -- `planning::places::total_of`: the loop keeps the sum of the sizes passed.
-use Prim.Native.Nat.{ℕ, _*_, _-_, _≤_}
-use native.Mathlib.Omega.{arith}
-use mathlib.Core.Path.{_≡_}
-use borrow.Author.Needs.{needs}
-use lib.ListN.{getD}
+use Rattle.common.specs.Words.{ℕ, _*_, _-_, _≤_, arith, _≡_, needs, getD}
 use Rattle.common.specs.Totals.{sum, sum-none, sum-next}
 use Rattle.sizing.specs.Bounds.{largestSize}
 use Rattle.planning.proofs.places.total_of.Statement.{statement}

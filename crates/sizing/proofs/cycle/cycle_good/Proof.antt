@@ -1,7 +1,5 @@
 -- `sizing::cycle::cycle_good`: a hyperperiod over the limit fails rule 4; of one within it the messages are counted for rule 5.
-use Prim.Native.Nat.{_<_}
-use mathlib.Core.Path.{sym, _∙_}
-use borrow.Author.Needs.{needs}
+use Rattle.common.specs.Words.{_<_, sym, _∙_, needs}
 use Rattle.common.specs.Tests.{tests}
 use Rattle.model.specs.Model.{hyperperiod}
 use Rattle.calendar.specs.Calendar.{capped-within, capped-over}

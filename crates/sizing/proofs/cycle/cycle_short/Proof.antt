@@ -1,7 +1,5 @@
 -- `sizing::cycle::cycle_short`: the hyperperiod was found within the limit, or over it.
-use Prim.Native.Nat.{_<_}
-use mathlib.Core.Path.{sym, _∙_}
-use borrow.Author.Needs.{needs}
+use Rattle.common.specs.Words.{_<_, sym, _∙_, needs}
 use Rattle.common.specs.Tests.{tests}
 use Rattle.model.specs.Model.{hyperperiod}
 use Rattle.calendar.specs.Calendar.{capped-within, capped-over}

@@ -1,12 +1,6 @@
 -- `sizing::cycle::hyperperiod_of`: the loop keeps the least common multiple of the receiver's period and the senders' passed.
 -- A multiple that is over the limit stays over it with more rows.
-use Prim.Native.Nat.{ℕ, _+_, _-_, _<_, _≤_}
-use native.Mathlib.Nat.{le-refl}
-use native.Mathlib.Omega.{arith}
-use mathlib.Core.Bool.{true, false, cond}
-use mathlib.Core.Logic.{⊎-elim}
-use mathlib.Core.Path.{_≡_, sym, _∙_}
-use borrow.Author.Needs.{needs}
+use Rattle.common.specs.Words.{ℕ, _+_, _-_, _<_, _≤_, le-refl, arith, true, false, cond, ⊎-elim, _≡_, sym, _∙_, needs}
 use Rattle.common.specs.Tests.{tests, true-or-false}
 use Rattle.model.specs.Model.{Queue, lcm, multiple, hyperperiod}
 use Rattle.model.specs.Multiple.{multiple-none, multiple-on, multiple-off, multiple-pos, multiple-mono}

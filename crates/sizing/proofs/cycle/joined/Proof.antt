@@ -1,5 +1,5 @@
 -- `sizing::cycle::joined`: a row that does not send leaves the multiple, which is within the limit.
-use borrow.Author.Needs.{needs}
+use Rattle.common.specs.Words.{needs}
 use Rattle.common.specs.Tests.{tests}
 use Rattle.sizing.proofs.cycle.joined.Statement.{statement}
 use Rattle.sizing.proofs.cycle.joined.Tie as tie

@@ -1,9 +1,5 @@
 -- `sizing::cycle::messages_in`: the loop keeps the sum over the rows passed, at most one message a tick for each.
-use Prim.Native.Nat.{ℕ, _*_, _-_, _≤_}
-use native.Mathlib.Nat.{div-le-self}
-use native.Mathlib.Omega.{arith}
-use mathlib.Core.Path.{_≡_, refl}
-use borrow.Author.Needs.{needs}
+use Rattle.common.specs.Words.{ℕ, _*_, _-_, _≤_, div-le-self, arith, _≡_, refl, needs}
 use Rattle.common.specs.Totals.{sum, sum-next, only-most}
 use Rattle.model.specs.Model.{Queue, rowMessages, messages}
 use Rattle.model.specs.Order.{period-pos}

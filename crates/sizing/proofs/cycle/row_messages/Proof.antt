@@ -1,4 +1,4 @@
-use borrow.Author.Needs.{needs}
+use Rattle.common.specs.Words.{needs}
 use Rattle.sizing.proofs.cycle.row_messages.Statement.{statement}
 use Rattle.sizing.proofs.cycle.row_messages.Tie as tie
 

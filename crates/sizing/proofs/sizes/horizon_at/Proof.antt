@@ -1,7 +1,5 @@
 -- `sizing::sizes::horizon_at`: nothing is outdated before the first messages have been wanted long enough.
-use native.Mathlib.Omega.{arith}
-use mathlib.Core.Path.{_≡_, sym, ap}
-use borrow.Author.Needs.{needs}
+use Rattle.common.specs.Words.{arith, _≡_, sym, ap, needs}
 use Rattle.calendar.specs.Calendar.{tick}
 use Rattle.sizing.specs.Needs.{horizonFor, horizon-back}
 use Rattle.sizing.proofs.sizes.horizon_at.Statement.{statement}

@@ -1,6 +1,5 @@
 -- `sizing::sizes::need_of`: the message's number less those that are outdated at its job's release, of which it is none.
-use native.Mathlib.Omega.{arith}
-use borrow.Author.Needs.{needs}
+use Rattle.common.specs.Words.{arith, needs}
 use Rattle.model.specs.Model.{releaseOf}
 use Rattle.counting.specs.Columns.{columnsAt}
 use Rattle.sizing.specs.Needs.{horizon-back, outdated-less}

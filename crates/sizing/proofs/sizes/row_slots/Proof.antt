@@ -1,9 +1,5 @@
 -- `sizing::sizes::row_slots`: the loop keeps the greatest need of the jobs passed. The second hyperperiod ends before the last tick.
-use Prim.Native.Nat.{ℕ, _+_, _-_, _/_, _<_, _≤_}
-use native.Mathlib.Nat.{div-le-self, div-mul-le-self, mul-le-mul-right}
-use native.Mathlib.Omega.{arith}
-use mathlib.Core.Path.{_≡_, refl}
-use borrow.Author.Needs.{needs}
+use Rattle.common.specs.Words.{ℕ, _+_, _-_, _/_, _<_, _≤_, div-le-self, div-mul-le-self, mul-le-mul-right, arith, _≡_, refl, needs}
 use Rattle.common.specs.Totals.{most, most-next}
 use Rattle.model.specs.Model.{Queue, Valid, Sender, deadlineOf}
 use Rattle.plan.specs.Limits.{lastTick, longestPeriod, longestHyperperiod}

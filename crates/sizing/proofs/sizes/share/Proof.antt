@@ -1,5 +1,5 @@
 -- `sizing::sizes::share`: a row that sends is a sender of the queue.
-use borrow.Author.Needs.{needs}
+use Rattle.common.specs.Words.{needs}
 use Rattle.sizing.proofs.sizes.share.Statement.{statement}
 use Rattle.sizing.proofs.sizes.share.Tie as tie
 

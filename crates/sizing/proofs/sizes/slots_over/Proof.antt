@@ -1,9 +1,5 @@
 -- `sizing::sizes::slots_over`: the loop keeps the greatest share of the rows passed.
-use Prim.Native.Nat.{ℕ, _-_, _<_, _≤_}
-use native.Mathlib.Omega.{arith}
-use mathlib.Core.Path.{_≡_, refl}
-use borrow.Author.Needs.{needs}
-use lib.ListN.{getD}
+use Rattle.common.specs.Words.{ℕ, _-_, _<_, _≤_, arith, _≡_, refl, needs, getD}
 use Rattle.common.specs.Totals.{only, most, most-next}
 use Rattle.model.specs.Model.{rowSlots, slotsOver}
 use Rattle.model.specs.Order.{period-pos}

@@ -1,7 +1,5 @@
 -- `places::slot_for`: a slot within the queue is below its size, so the sum fits.
-use native.Mathlib.Nat.{mod-lt}
-use native.Mathlib.Omega.{arith}
-use borrow.Author.Needs.{needs}
+use Rattle.common.specs.Words.{mod-lt, arith, needs}
 use Rattle.slots.proofs.places.slot_for.Statement.{statement}
 use Rattle.slots.proofs.places.slot_for.Tie as tie
 

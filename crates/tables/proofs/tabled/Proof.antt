@@ -1,0 +1,16 @@
+-- `tables::tabled` puts the columns together.
+use Rattle.common.specs.Words.{needs}
+use Rattle.tables.specs.Table.{tabled}
+use Rattle.tables.proofs.tabled.Statement.{statement}
+use Rattle.tables.proofs.tabled.Tie as tie
+
+returns : tie.Need-returns
+unfolding tabled
+returns c =
+    let d = c .before in
+    rw (c .flat-square .ensures, d .queue-column .ensures, d .before .task-column2 .ensures, d .before .before .task-column .ensures)
+
+pub tabled-spec : {M : Type 1} → statement M
+tabled-spec =
+    tie.close
+    (tie.spec (λ c κs. search needs) (λ c κs. search needs) (λ c κs. search needs) (λ c κs. search needs) returns)

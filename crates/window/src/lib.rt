@@ -1,0 +1,87 @@
+// The window of a receiver's job, from the columns of a plan: its ticks and numbers, the number to read next, and the sender of a number
+// that lies in it. All functions are inner ones: callers have tested the plan (`Lent`) and stay within the last tick.
+use calendar::Job;
+use calendar::Number;
+use calendar::Tick;
+use plan::Plan;
+ghost use Rattle.common.specs.Words.{_≡_, _+_, _-_, _^_, _<_, _≤_, max};
+ghost use Rattle.model.specs.Model.{released, upTo, senderOf};
+ghost use Rattle.calendar.specs.Calendar.{tick, message};
+ghost use Rattle.plan.specs.Limits.{lastTick};
+ghost use Rattle.counting.specs.Columns.{columnsAt, Lent};
+ghost use Rattle.window.specs.Window.{windowAt};
+
+// The window of a receiver's job: the messages with deadlines after tick `low` and up to tick `high`, which have the numbers after
+// `before` and up to `end`.
+pub struct Window {
+    pub low: Tick,
+    pub high: Tick,
+    pub before: u64,
+    pub end: u64,
+}
+
+// The release of the job before, and tick 0 where there is none.
+fn release_before(period: u64, job: Job) -> Tick
+    requires { ⌜ released period (job .0) < 2 ^ 64 ⌝ }
+    ensures { λ r. ⌜ r ≡ tick (released period (job .0 - 1)) ⌝ }
+{
+    if job.0 == 0 {
+        return Tick(0);
+    }
+    calendar::release_of(period, Job(job.0 - 1))
+}
+
+// The window of the job that was released last, of a receiver with the period `every`, from the plan's columns.
+pub fn window_at<'a>(
+    sends: &'a [bool; Plan::CELLS],
+    period: &'a [u64; Plan::TASKS],
+    deadline: &'a [u64; Plan::TASKS],
+    tasks: usize,
+    queue: usize,
+    every: u64,
+    at: Tick,
+) -> Window
+    requires { ⌜ Lent (now sends) (now period) (now deadline) tasks queue × (1 ≤ every) × (at .0 ≤ lastTick) ⌝ }
+    ensures { λ r. ⌜ r ≡ windowAt (columnsAt (now (sends .entry)) (now (period .entry)) (now (deadline .entry)) tasks queue) every (at .0) ⌝ }
+{
+    let job = calendar::job_at(every, at);
+    let low = release_before(every, job);
+    let high = calendar::release_of(every, job);
+    Window {
+        low,
+        high,
+        before: counting::count::up_to(sends, period, deadline, tasks, queue, low),
+        end: counting::count::up_to(sends, period, deadline, tasks, queue, high),
+    }
+}
+
+// The number to read next: a reading place before the window counts as its first number, which is the one after `before`.
+pub fn next_number(reading: u64, before: u64) -> Number
+    requires { ⌜ before + 1 < 2 ^ 64 ⌝ }
+    ensures { λ r. ⌜ r ≡ message (max reading (before + 1)) ⌝ }
+{
+    if reading <= before {
+        return Number(before + 1);
+    }
+    Number(reading)
+}
+
+// The sender of message n, whose deadline lies after tick `low` and not after tick `high`, from the plan's columns.
+pub fn sender_in<'a>(
+    sends: &'a [bool; Plan::CELLS],
+    period: &'a [u64; Plan::TASKS],
+    deadline: &'a [u64; Plan::TASKS],
+    tasks: usize,
+    queue: usize,
+    n: Number,
+    low: Tick,
+    high: Tick,
+) -> usize
+    requires { ⌜ Lent (now sends) (now period) (now deadline) tasks queue × (high .0 ≤ lastTick)
+        × (upTo (columnsAt (now sends) (now period) (now deadline) tasks queue) (low .0) < n .0)
+        × (n .0 ≤ upTo (columnsAt (now sends) (now period) (now deadline) tasks queue) (high .0)) ⌝ }
+    ensures { λ r. ⌜ r ≡ senderOf (columnsAt (now (sends .entry)) (now (period .entry)) (now (deadline .entry)) tasks queue) lastTick (n .0) ⌝ }
+{
+    let at = counting::sender::tick_between(sends, period, deadline, tasks, queue, n, low, high);
+    counting::sender::sender_at(sends, period, deadline, tasks, queue, n, at)
+}
