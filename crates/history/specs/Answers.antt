@@ -15,7 +15,8 @@ use Rattle.mailbox.specs.Calls.{receiveLines, found, slotFor, receivingJob}
 use Rattle.mailbox.specs.View.{viewOf}
 use Rattle.plan.specs.Verdicts.{Passed, Stopped, passed-or-stopped}
 use Rattle.history.specs.History.{Call, World, receiveSays, Sends, accepted, Tells, ofMessage, ofGap}
-use Rattle.history.specs.Steps.{CanReceive, can-receive, next, lastAt, receive-finds, receive-ends, receive-refused, Step, sends, stays}
+use Rattle.judge.specs.Accepted.{receive-passed}
+use Rattle.history.specs.Steps.{CanReceive, next, lastAt, receive-finds, receive-ends, receive-refused, Step, sends, stays}
 use Rattle.history.specs.Ground.{valid-at, bytes-inside}
 use Rattle.history.specs.Invariant.{held, bytes, sent-is}
 
@@ -40,11 +41,11 @@ answered p w q t = go (passed-or-stopped lines) (lt-or-le (lastAt p w q t) (next
     go : Passed lines ⊎ ((r : Refusal) × Stopped lines r) → (lastAt p w q t < next p w q t) ⊎ (next p w q t ≤ lastAt p w q t) →
         (b : Bool) → eqb (held p q w (next p w q t)) (next p w q t) ≡ b → Answered p w q t (receiveSays p w q t)
     go (inr h) l b e = saying (receive-refused p w q t (h .0) (h .1)) refused
-    go (inl h) (inl l) b e = let can = can-receive p w q t h in saying (receive-ends p w q t can l) (ended can l)
+    go (inl h) (inl l) b e = let can = receive-passed (w .state .tick .0) p (w .memory) q t h in saying (receive-ends p w q t can l) (ended can l)
     go (inl h) (inr l) true e =
-        let can = can-receive p w q t h in saying (receive-finds p w q t can l ∙ rw e) (finding can l (eqb-true _ _ e))
+        let can = receive-passed (w .state .tick .0) p (w .memory) q t h in saying (receive-finds p w q t can l ∙ rw e) (finding can l (eqb-true _ _ e))
     go (inl h) (inr l) false e =
-        let can = can-receive p w q t h in saying (receive-finds p w q t can l ∙ rw e) (missing can l (eqb-false _ _ e))
+        let can = receive-passed (w .state .tick .0) p (w .memory) q t h in saying (receive-finds p w q t can l ∙ rw e) (missing can l (eqb-false _ _ e))
 
 -- by an equation, as theorems speak of answers
 pub answered-so : (p : Plan) (w : World) (q t : ℕ) (a : Received) → receiveSays p w q t ≡ a → Answered p w q t a
@@ -90,14 +91,14 @@ module _ {p : Plan} (sound : Sound p) {w : World} {q t n : ℕ} (k : Told p w q 
   told-outdated i j s e =
       let job : jobFor (queueAt p q) (deadlineOf (queueAt p q) i j) ≡ receivingJob (queueAt p q) t =
       window-own (queueAt p q) valid-queue (receivingJob (queueAt p q) t) i j s told-job .0 (rw e told-window) in
-      rw job (k .can .in-time)
+      rw job (k .can .wanted)
 
 -- what the view shows of a message
-pub shown : {p : Plan} → Sound p → {w : World} {q t : ℕ} (n : ℕ) (filler : List ℕ) → CanReceive p w q t → length filler ≡ payloadBytes →
+pub shown : {p : Plan} → Sound p → (w : World) {q t : ℕ} (n : ℕ) (filler : List ℕ) → CanReceive p w q t → length filler ≡ payloadBytes →
     viewOf (Received.Message (message n) (slot (slotFor p q n))) (w .memory) filler ≡ bytes p q w n
 unfolding viewOf
-shown {p} sound {w} {q} {t} n filler can width =
-    rw (eq-eqb (length filler) payloadBytes width, le-leb (slotAt payloadBytes (slotFor p q n) + slotBytes) (length (w .memory)) (bytes-inside sound (length (w .memory)) q n (can .queue) (can .room)))
+shown {p} sound w {q} {t} n filler can width =
+    rw (eq-eqb (length filler) payloadBytes width, le-leb (slotAt payloadBytes (slotFor p q n) + slotBytes) (length (w .memory)) (bytes-inside sound (length (w .memory)) q n (can .queue) (can .ground .room)))
 
 -- ## A send that is accepted comes before its message's deadline
 
@@ -117,6 +118,6 @@ in-time {p} {w} {q = q} {n = n} {b = b} (accepted {i = i} {t = t} e) (sends h) =
       queue = h .queue;
       sender = h .sender;
       numbered = sym (sent-is h (accepted e) .1);
-      ahead = omega (arith, h .not-past, h .in-time);
+      ahead = omega (arith, h .in-order, h .running);
     }
 in-time {q = q} {n = n} {b = b} (accepted e) (stays quiet) = absurd (quiet .no-send q n b (accepted e))

@@ -3,7 +3,8 @@
 use Rattle.common.specs.Words.{arith, true, false, _∷_, _≡_, refl, replicate}
 use Rattle.common.specs.Totals.{sum, most}
 use Rattle.common.specs.Rows.{every, some, firstBad}
-use Rattle.model.specs.Model.{count, hasDeadline, precedes, upTo, dueAt, followers, number, wantedFor, horizon, outdated, euclid, gcd, lcm, multiple, hyperperiod, need, rowSlots, slotsOver, slots}
+use Rattle.model.specs.Model.{count, hasDeadline, precedes, upTo, dueAt, followers, number, wantedFor, horizon, outdated, euclid, gcd}
+use Rattle.model.specs.Model.{lcm, multiple, hyperperiod, need, rowSlots, slotsOver, slots}
 use Rattle.plan.specs.Rules.{oneTo, countsGood, taskGood, onlyTasksSend, queueGood, placeGood, placesGood, checkedPlan, soundPlan}
 use Rattle.plan.specs.Plan.{queueAt}
 use Rattle.plan.specs.declared.Plan.{Plan}

@@ -70,8 +70,8 @@ step-inv {p} fitting {q} {S} {w} h shape inv (sends {q = r} {i = i} {t = t} {pay
     go : Dec (r ≡ q) → Inv p q (λ n c. S n c ⊎ Sends p w (send r i t b) q n c) (sentWorld p w r i t b)
     go (yes e) = subst Goal (sym e) (λ can′. own-inv (fitting .sound) shape q i t b can′ (fitting .fit q h) inv) can
     go (no d) = other-inv (fitting .sound) shape r i t b can q h d inv
-step-inv fitting h shape inv (finds can l) = untouched (λ n b s. elim s [ ]) inv (can .not-past) (λ i s. refl) (λ n. refl) (λ n. refl)
-step-inv fitting h shape inv (ends can l) = untouched (λ n b s. elim s [ ]) inv (can .not-past) (λ i s. refl) (λ n. refl) (λ n. refl)
+step-inv fitting h shape inv (finds can l) = untouched (λ n b s. elim s [ ]) inv (can .in-order) (λ i s. refl) (λ n. refl) (λ n. refl)
+step-inv fitting h shape inv (ends can l) = untouched (λ n b s. elim s [ ]) inv (can .in-order) (λ i s. refl) (λ n. refl) (λ n. refl)
 step-inv fitting {q} h shape inv (stays quiet) = untouched (λ n b s. quiet .no-send q n b s) inv (le-refl _) (λ i s. refl) (λ n. refl) (λ n. refl)
 
 module _ {p : Plan} {m : List ℕ} (begins : Begins p m) where
@@ -88,7 +88,7 @@ module _ {p : Plan} {m : List ℕ} (begins : Begins p m) where
 step-behind : {p : Plan} → Sound p → {w w′ : World} {c : Call} → Step p w c w′ → drop (slotsOf p * slotBytes) (w′ .memory) ≡ drop (slotsOf p * slotBytes) (w .memory)
 step-behind {p} sound {w} (sends {q = q} {i = i} {t = t} {payload = b} can) =
     let n : ℕ = numberAt p w q i t in
-    behind-stored payloadBytes (w .memory) b (slotFor p q n) n (can .width) (slotsOf p) (slot-inside sound q n (can .queue))
+    behind-stored payloadBytes (w .memory) b (slotFor p q n) n (can .whole) (slotsOf p) (slot-inside sound q n (can .queue))
 step-behind sound (finds can l) = refl
 step-behind sound (ends can l) = refl
 step-behind sound (stays quiet) = refl

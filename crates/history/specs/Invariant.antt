@@ -52,9 +52,9 @@ pub record Inv (p : Plan) (q : ℕ) (S : ℕ → List ℕ → Type 0) (w : World
 -- ## Time goes on
 
 pub step-tick : {p : Plan} {w w′ : World} {c : Call} → Step p w c w′ → w .state .tick .0 ≤ w′ .state .tick .0
-step-tick (sends h) = h .not-past
-step-tick (finds h l) = h .not-past
-step-tick (ends h l) = h .not-past
+step-tick (sends h) = h .in-order
+step-tick (finds h l) = h .in-order
+step-tick (ends h l) = h .in-order
 step-tick (stays h) = le-refl _
 
 pub tick-mono : (p : Plan) (m : List ℕ) {H K : History} → H ⊑ K → world p m H .state .tick .0 ≤ world p m K .state .tick .0
@@ -65,7 +65,7 @@ pub step-shape : {p : Plan} {w w′ : World} {c : Call} → Shape p w → Step p
 step-shape {p} {w} shape (sends {q = q} {i = i} {t = t} {payload = b} h) = record {
   cells = length-set (w .state .sent) (q * taskLimit + i) (runningJob (queueAt p q) i t + 1) ∙ shape .cells;
   places = shape .places;
-  room = omega (arith, shape .room, length-stored payloadBytes (w .memory) b (slotFor p q (numberAt p w q i t)) (numberAt p w q i t) (h .width));
+  room = omega (arith, shape .room, length-stored payloadBytes (w .memory) b (slotFor p q (numberAt p w q i t)) (numberAt p w q i t) (h .whole));
 }
 step-shape {p} {w} shape (finds {q = q} {t = t} h l) = record {
   cells = shape .cells;
@@ -138,9 +138,9 @@ module _ {p : Plan} (sound : Sound p) {w : World} (shape : Shape p w) where
     pub other-inv : {S : ℕ → List ℕ → Type 0} (q : ℕ) → q < p .queues → (r ≡ q → ⊥) → Inv p q S w →
         Inv p q (λ n c. S n c ⊎ Sends p w (send r i t b) q n c) now
     other-inv q h d inv =
-        untouched (λ n c x. d (sent-is can x .0)) inv (can .not-past) (λ j s. other-cell q j d s)
-        (λ n. number-other payloadBytes (w .memory) b _ _ (can .width) (slotFor p q n) (λ e. elsewhere n e))
-        (λ n. payload-other payloadBytes (w .memory) b _ _ (can .width) (slotFor p q n) (λ e. elsewhere n e))
+        untouched (λ n c x. d (sent-is can x .0)) inv (can .in-order) (λ j s. other-cell q j d s)
+        (λ n. number-other payloadBytes (w .memory) b _ _ (can .whole) (slotFor p q n) (λ e. elsewhere n e))
+        (λ n. payload-other payloadBytes (w .memory) b _ _ (can .whole) (slotFor p q n) (λ e. elsewhere n e))
       where
         elsewhere : (n : ℕ) → slotFor p q n ≡ slotFor p r (numberAt p w r i t) → ⊥
         elsewhere n e = slots-differ sound q r n (numberAt p w r i t) h (can .queue) (λ x. d (sym x)) e
@@ -163,19 +163,19 @@ module _ {p : Plan} (sound : Sound p) {w : World} (shape : Shape p w) where
     pub number-now : (n : ℕ) → n % sizeAt p r ≡ N % sizeAt p r → held p r now n ≡ N
     number-now n e =
         rw (slot-same n e)
-        (number-same payloadBytes (w .memory) b (slotFor p r N) N (can .width) (bytes-inside sound (length (w .memory)) r N (can .queue) (can .room))
-        (number-fits sound r i (runningJob (queueAt p r) i t) (can .queue) (can .sender) (can .deadline-fits)))
+        (number-same payloadBytes (w .memory) b (slotFor p r N) N (can .whole) (bytes-inside sound (length (w .memory)) r N (can .queue) (can .ground .room))
+        (number-fits sound r i (runningJob (queueAt p r) i t) (can .queue) (can .sender) (can .deadline-within)))
 
     payload-now : (n : ℕ) → n % sizeAt p r ≡ N % sizeAt p r → bytes p r now n ≡ b
     payload-now n e =
         rw (slot-same n e)
-        (payload-same payloadBytes (w .memory) b (slotFor p r N) N (can .width) (bytes-inside sound (length (w .memory)) r N (can .queue) (can .room)))
+        (payload-same payloadBytes (w .memory) b (slotFor p r N) N (can .whole) (bytes-inside sound (length (w .memory)) r N (can .queue) (can .ground .room)))
 
     number-still : (n : ℕ) → (n % sizeAt p r ≡ N % sizeAt p r → ⊥) → held p r now n ≡ held p r w n
-    number-still n d = number-other payloadBytes (w .memory) b (slotFor p r N) N (can .width) (slotFor p r n) (slot-other n d)
+    number-still n d = number-other payloadBytes (w .memory) b (slotFor p r N) N (can .whole) (slotFor p r n) (slot-other n d)
 
     payload-still : (n : ℕ) → (n % sizeAt p r ≡ N % sizeAt p r → ⊥) → bytes p r now n ≡ bytes p r w n
-    payload-still n d = payload-other payloadBytes (w .memory) b (slotFor p r N) N (can .width) (slotFor p r n) (slot-other n d)
+    payload-still n d = payload-other payloadBytes (w .memory) b (slotFor p r N) N (can .whole) (slotFor p r n) (slot-other n d)
 
     own-cell : getD (now .state .sent) (r * taskLimit + i) 0 ≡ runningJob (queueAt p r) i t + 1
     own-cell = getD-set-same (w .state .sent) (r * taskLimit + i) (runningJob (queueAt p r) i t + 1) 0 cell-inside
@@ -188,7 +188,7 @@ module _ {p : Plan} (sound : Sound p) {w : World} (shape : Shape p w) where
       sender = o .sender;
       numbered = o .numbered;
       recorded = recorded′ (ℕ-discrete (o .row) i);
-      released = omega (arith, o .released, can .not-past);
+      released = omega (arith, o .released, can .in-order);
     }
       where
         recorded′ : Dec (o .row ≡ i) → o .job < getD (now .state .sent) (r * taskLimit + o .row) 0
@@ -228,8 +228,8 @@ module _ {p : Plan} (sound : Sound p) {w : World} (shape : Shape p w) where
                 (rw (o .numbered) l) (rw (o .numbered) (sym e)),
             outdated-late (queueAt p r) (valid-at sound r (can .queue)) i (runningJob (queueAt p r) i t) (can .sender),
             o .released,
-            can .not-past,
-            can .in-time,
+            can .in-order,
+            can .running,
           ))))
           (λ l. l)
           (lt-or-le N n)

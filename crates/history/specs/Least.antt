@@ -13,11 +13,12 @@ use Rattle.model.specs.Window.{window-own}
 use Rattle.model.specs.Multiple.{hyperperiod-common}
 use Rattle.plan.specs.Limits.{taskLimit, queueLimit, cellLimit, lastTick, longestHyperperiod, payloadBytes}
 use Rattle.plan.specs.Plan.{queueAt, sizeAt}
-use Rattle.plan.specs.Sound.{Sound, sound-iff}
+use Rattle.plan.specs.Sound.{Sound}
 use Rattle.history.specs.Types.{Plan, Received}
 use Rattle.slots.specs.Slots.{numberIn}
 use Rattle.mailbox.specs.Calls.{found, slotFor, runningJob, receivingJob}
-use Rattle.history.specs.History.{send, receive, World, History, start, _then_, Begins, world, after, receiveSays, Sends, accepted, SentIn, Tells, stores, tells, AllAccepted}
+use Rattle.history.specs.History.{send, receive, World, History, start, _then_, Begins, world, after, receiveSays, Sends}
+use Rattle.history.specs.History.{accepted, SentIn, Tells, stores, tells, AllAccepted}
 use Rattle.history.specs.Steps.{CanSend, CanReceive, numberAt, sentWorld, next, lastAt, readWorld, send-stores, receive-finds, after-send, after-finds, found-tells}
 use Rattle.history.specs.Ground.{valid-at}
 use Rattle.history.specs.Invariant.{Shape, held, outdated-late, number-now}
@@ -83,15 +84,14 @@ module _ {p : Plan} (sound : Sound p) {m : List ℕ} (begins : Begins p m) (q : 
   can-send-job H i k t s a c d e u =
       let j : runningJob (queueAt p q) i t ≡ k = job-at (queueAt p q) v i k t s c d in
       record {
-        sound = sound-iff p .1 sound;
-        room = shaped begins H .room;
-        width = width;
+        ground = record { sound = sound; room = shaped begins H .room };
+        whole = width;
         queue = counted;
         sender = s;
-        tick-fits = omega arith;
-        deadline-fits = rw j e;
-        not-past = a;
-        in-time = rw j d;
+        tick-within = omega arith;
+        deadline-within = rw j e;
+        in-order = a;
+        running = rw j d;
         unsent = rw j u;
       }
 
@@ -266,12 +266,11 @@ module _ {p : Plan} (sound : Sound p) {m : List ℕ} (begins : Begins p m) (q : 
     module _ {x : ℕ} {w : World} (r : After x w) (here : first (queueAt p q) J + x ≤ n) where
       can : CanReceive p w q t₃
       can = record {
-        sound = sound-iff p .1 sound;
-        room = r .shape .room;
+        ground = record { sound = sound; room = r .shape .room };
         queue = counted;
-        tick-fits = third-fits;
-        not-past = r .not-later;
-        in-time = rw job-third open-third;
+        tick-within = third-fits;
+        in-order = r .not-later;
+        wanted = rw job-third open-third;
       }
 
       next-is : next p w q t₃ ≡ first (queueAt p q) J + x

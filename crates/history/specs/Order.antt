@@ -148,22 +148,22 @@ module _ (p : Plan) (q : ℕ) (v : Valid (queueAt p q)) where
 
   step-order : {R : ℕ → List ℕ} {w w′ : World} {c : Call} (filler : List ℕ) → q < queueLimit → Shape p w → Order p q R w → Step p w c w′ →
       Order p q (λ k. R k ++ numbers (reads p filler w c q k)) w′
-  step-order {R} {w} filler h shape o (sends can) = order-same (λ k. append-nil (R k)) (idle o (can .not-past) refl)
+  step-order {R} {w} filler h shape o (sends can) = order-same (λ k. append-nil (R k)) (idle o (can .in-order) refl)
   step-order {R} {w} filler h shape o (finds {q = r} {t = t} can l) = go (ℕ-discrete r q)
     where
       Goal : ℕ → Type 0
       Goal x = CanReceive p w x t → next p w x t ≤ lastAt p w x t → Order p q (λ k. R k ++ numbers (reads p filler w (receive x t) q k)) (readWorld p w x t)
 
       own : Goal q
-      own can′ l′ = order-same (λ k. read-own p w filler q t k (R k) can′ l′) (goes o t (omega (arith, shape .places)) (can′ .not-past) l′)
+      own can′ l′ = order-same (λ k. read-own p w filler q t k (R k) can′ l′) (goes o t (omega (arith, shape .places)) (can′ .in-order) l′)
 
       go : Dec (r ≡ q) → Order p q (λ k. R k ++ numbers (reads p filler w (receive r t) q k)) (readWorld p w r t)
       go (yes e) = subst Goal (sym e) own can l
       go (no d) =
           order-same (λ k. rw (read-other p w filler r t q k d) (append-nil (R k)))
-          (idle o (can .not-past) (getD-set-other (w .state .reading) r q (next p w r t + 1) 0 (λ e. d (sym e))))
+          (idle o (can .in-order) (getD-set-other (w .state .reading) r q (next p w r t + 1) 0 (λ e. d (sym e))))
   step-order {R} {w} filler h shape o (ends {q = r} {t = t} can l) =
-      order-same (λ k. quiet k) (idle o (can .not-past) refl)
+      order-same (λ k. quiet k) (idle o (can .in-order) refl)
     where
       quiet : (k : ℕ) → R k ++ numbers (reads p filler w (receive r t) q k) ≡ R k
       quiet k = rw (receive-ends p w r t can l) (go (eqb r q && eqb (receivingJob (queueAt p q) t) k))

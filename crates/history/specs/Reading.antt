@@ -14,7 +14,8 @@ use Rattle.plan.specs.Plan.{queueAt}
 use Rattle.plan.specs.Sound.{Sound}
 use Rattle.mailbox.specs.Calls.{runningJob, receivingJob}
 use Rattle.mailbox.specs.View.{viewOf}
-use Rattle.history.specs.History.{Call, send, receive, World, sendSays, History, start, _then_, _⊑_, same, more, Begins, world, receiveSays, Sends, accepted, SentIn, Tells, ofGap, Accepted, tells, empty, readBy, numbers, upFrom, windowNumbers}
+use Rattle.history.specs.History.{Call, send, receive, World, sendSays, History, start, _then_, _⊑_, same, more, Begins, world, receiveSays}
+use Rattle.history.specs.History.{Sends, accepted, SentIn, Tells, ofGap, Accepted, tells, empty, readBy, numbers, upFrom, windowNumbers}
 use Rattle.history.specs.Steps.{CanReceive, next, after-finds, receive-moves, Step, sends, finds, ends, stays, step}
 use Rattle.history.specs.Ground.{valid-at, Fitting, slot-waits, div-mono}
 use Rattle.history.specs.Invariant.{Shape, Inv, held, bytes, unsent, sent-is, tick-mono}
@@ -33,7 +34,7 @@ sent-by-its-job p w q i t n b s e = go (accepted e) (step p w (send q i t b))
     go : {w′ : World} → Sends p w (send q i t b) q n b → Step p w (send q i t b) w′ →
         Sender (queueAt p q) i × (number (queueAt p q) i (runningJob (queueAt p q) i t) ≡ n)
         × (releaseOf (queueAt p q) i (runningJob (queueAt p q) i t) ≤ t) × (t < deadlineOf (queueAt p q) i (runningJob (queueAt p q) i t))
-    go x (sends h) = (h .sender, sym (sent-is h x .1), div-mul-le-self t (queueAt p q .period i), h .in-time)
+    go x (sends h) = (h .sender, sym (sent-is h x .1), div-mul-le-self t (queueAt p q .period i), h .running)
     go x (stays quiet) = absurd (quiet .no-send q n b x)
 
 module _ {p : Plan} {m : List ℕ} (fitting : Fitting p) (begins : Begins p m) where
@@ -48,7 +49,7 @@ module _ {p : Plan} {m : List ℕ} (fitting : Fitting p) (begins : Begins p m) w
           SentIn p m H q n (viewOf (Received.Message (message n) s) (world p m H .memory) filler)
       go (finding h l e) =
           let n : ℕ = next p (world p m H) q t in
-          subst (λ (b : List ℕ). SentIn p m H q n b) (sym (shown (fitting .sound) n filler h width))
+          subst (λ (b : List ℕ). SentIn p m H q n b) (sym (shown (fitting .sound) (world p m H) n filler h width))
           (subst (λ (k : ℕ). SentIn p m H q k (bytes p q (world p m H) n)) e (holds begins fitting q (h .queue) H .fair n (omega arith) .0))
 
   -- a number is sent at most once
@@ -88,8 +89,8 @@ module _ {p : Plan} {m : List ℕ} (fitting : Fitting p) (begins : Begins p m) w
         slot-waits (fitting .sound) q (h .queue) (fitting .fit q (h .queue)) (o .row) (o .job) (o′ .row) (o′ .job) (o .sender) (o′ .sender)
             (rw (o .numbered, o′ .numbered) above) (rw (o .numbered, o′ .numbered) (sym (there .1))),
         o′ .released,
-        h .not-past,
-        told-outdated (fitting .sound) (told (missing h l e) ofGap) (o .row) (o .job) (o .sender) (o .numbered),
+        h .in-order,
+        told-outdated (fitting .sound) (told {w = w} (missing h l e) ofGap) (o .row) (o .job) (o .sender) (o .numbered),
       ))))
 
   pub gap-never-sent : (H K : History) (q t n row : ℕ) → receiveSays p (world p m H) q t ≡ Received.Gap (message n) row → (H then receive q t) ⊑ K →
@@ -140,7 +141,7 @@ module _ {p : Plan} {m : List ℕ} (sound : Sound p) (begins : Begins p m) where
           omega (
             arith,
             last-is (queueAt p q) (t / R) n (k .not-past),
-            upTo-mono (queueAt p q) (valid-at sound q (k .can .queue)) (t / R * R) lastTick (omega (arith, div-mul-le-self t R, k .can .tick-fits)),
+            upTo-mono (queueAt p q) (valid-at sound q (k .can .queue)) (t / R * R) lastTick (omega (arith, div-mul-le-self t R, k .can .tick-within)),
           )
 
   pub gap-names-sender : (H : History) (q t n row : ℕ) → receiveSays p (world p m H) q t ≡ Received.Gap (message n) row →
@@ -201,7 +202,7 @@ module _ {p : Plan} {m : List ℕ} (sound : Sound p) (begins : Begins p m) where
     comes-next : CanReceive p (world p m H) q t → next p (world p m H) q t ≡ first (queueAt p q) (receivingJob (queueAt p q) t) + length soFar
     comes-next can =
         so-far can .goes-on (receivingJob (queueAt p q) t)
-        (div-mono (receiverPeriod (queueAt p q)) (world p m H .state .tick .0) t (every-pos p q (valid-at sound q (can .queue))) (can .not-past))
+        (div-mono (receiverPeriod (queueAt p q)) (world p m H .state .tick .0) t (every-pos p q (valid-at sound q (can .queue))) (can .in-order))
 
     -- an accepted receive is empty exactly when all of the running job's window is read
     pub empty-when-all-read : receiveSays p (world p m H) q t ≡ Received.Empty → soFar ≡ whole

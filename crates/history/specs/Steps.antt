@@ -1,85 +1,31 @@
 -- One call, by what it comes to. Every later proof goes by this list of cases and never looks at the tests again.
 -- It leans on Verdicts: a call is accepted exactly when its lines pass.
-use Rattle.common.specs.Words.{ℕ, _+_, _*_, _≤_, _<_, Bool, true, false, cond, _&&_, _||_, true≢false, List, [], _⊎_, inl, inr, ⊎-elim, _≡_, refl}
-use Rattle.common.specs.Words.{sym, ap, subst, _∙_, ltb, eqb, length, getD, ltb-true, ltb-false, leb-false, eqb-true, not-false, lt-ltb, le-ltb}
-use Rattle.common.specs.Words.{lt-leb, eq-eqb}
-use Rattle.common.specs.Tests.{lt-or-le, both}
-use Rattle.model.specs.Model.{Sender, last, wantedUntil, senderOf}
+use Rattle.common.specs.Words.{ℕ, _≤_, _<_, Bool, true, false, cond, _&&_, true≢false, List, [], _⊎_, inl, inr, ⊎-elim, _≡_, refl}
+use Rattle.common.specs.Words.{sym, ap, subst, _∙_, eqb, lt-ltb, le-ltb}
+use Rattle.common.specs.Tests.{lt-or-le}
+use Rattle.model.specs.Model.{last, senderOf}
 use Rattle.calendar.specs.Calendar.{message, slot}
 use Rattle.history.specs.Types.{Slot, Number, State, Plan, Refusal, Sent, Received}
 use Rattle.plan.specs.Refusals.{Line}
-use Rattle.plan.specs.Limits.{taskLimit, lastTick, payloadBytes, slotBytes}
-use Rattle.plan.specs.Plan.{queueAt, slotsOf}
-use Rattle.plan.specs.Rules.{soundPlan, connected}
+use Rattle.plan.specs.Limits.{lastTick, payloadBytes}
+use Rattle.plan.specs.Plan.{queueAt}
 use Rattle.slots.specs.Slots.{numberIn, stored}
-use Rattle.mailbox.specs.Calls.{sendLines, receiveLines, sendAnswer, sendState, sendMemory, look, found, receiveState, sentState, readPast, movedTo, steppedOn, runningJob, runningDeadline, runningNumber, receivingJob, nextNumber, slotIn, slotFor}
+use Rattle.mailbox.specs.Calls.{lastSent, sendLines, receiveLines, sendAnswer, sendState, sendMemory, look, found, receiveState, sentState, readPast}
+use Rattle.mailbox.specs.Calls.{movedTo, steppedOn, runningNumber, receivingJob, nextNumber, slotIn, slotFor}
 use Rattle.plan.specs.Verdicts.{Passed, Stopped, passed-good, stopped-refused, passed-or-stopped}
-use Rattle.history.specs.History.{Call, send, receive, askNumber, askWayBack, askWindow, askView, World, sendSays, receiveSays, after, Sends, accepted, reads, readings, Tells, ofMessage, ofGap, Accepted, stores, tells, empty}
+use Rattle.judge.specs.Accepted.{SendTaken, send-passed, send-passes, ReceiveTaken, receive-passed, receive-passes}
+use Rattle.history.specs.History.{Call, send, receive, askNumber, askWayBack, askWindow, askView, World, sendSays, receiveSays, after, Sends}
+use Rattle.history.specs.History.{accepted, reads, readings, Tells, ofMessage, ofGap, Accepted, stores, tells, empty}
 
 -- ## When a call is accepted
 
-pub record CanSend (p : Plan) (w : World) (q i t : ℕ) (payload : List ℕ) : Type 0 where
-  pub sound : soundPlan p ≡ true
-  pub room : slotsOf p * slotBytes ≤ length (w .memory)
-  pub width : length payload ≡ payloadBytes
-  pub queue : q < p .queues
-  pub sender : Sender (queueAt p q) i
-  pub tick-fits : t ≤ lastTick
-  pub deadline-fits : runningDeadline (queueAt p q) i t ≤ lastTick
-  pub not-past : w .state .tick .0 ≤ t
-  pub in-time : t < runningDeadline (queueAt p q) i t
-  pub unsent : getD (w .state .sent) (q * taskLimit + i) 0 ≤ runningJob (queueAt p q) i t
+abbrev pub CanSend : Plan → World → ℕ → ℕ → ℕ → List ℕ → Type 0
+CanSend p w q i t payload = SendTaken (w .state .tick .0) (lastSent (w .state) q i) p (w .memory) q i t payload
 
-pub record CanReceive (p : Plan) (w : World) (q t : ℕ) : Type 0 where
-  pub sound : soundPlan p ≡ true
-  pub room : slotsOf p * slotBytes ≤ length (w .memory)
-  pub queue : q < p .queues
-  pub tick-fits : t ≤ lastTick
-  pub not-past : w .state .tick .0 ≤ t
-  pub in-time : t < wantedUntil (queueAt p q) (receivingJob (queueAt p q) t)
-
-neither : (a : Bool) {b : Bool} → (a || b) ≡ false → (a ≡ false) × (b ≡ false)
-neither true h = absurd (true≢false h)
-neither false h = (refl, h)
+abbrev pub CanReceive : Plan → World → ℕ → ℕ → Type 0
+CanReceive p w q t = ReceiveTaken (w .state .tick .0) p (w .memory) q t
 
 module _ (p : Plan) (w : World) where
-  can-send : (q i t : ℕ) (payload : List ℕ) → Passed (sendLines (w .state) p (w .memory) q i t payload) → CanSend p w q i t payload
-  can-send q i t payload h =
-      let c = both (ltb q (p .queues)) (not-false (connected p q i) (h .1 .1 .1 .0)) in
-      let d = both (ltb i (p .tasks)) (c .1) in
-      let e = neither (ltb lastTick t) (h .1 .1 .1 .1 .0) in
-      record {
-        sound = not-false (soundPlan p) (h .0);
-        room = ltb-false _ _ (h .1 .0);
-        width = eqb-true _ _ (not-false (eqb (length payload) payloadBytes) (h .1 .1 .0));
-        queue = ltb-true _ _ (c .0);
-        sender = record { row = ltb-true _ _ (d .0); on = d .1 };
-        tick-fits = ltb-false _ _ (e .0);
-        deadline-fits = ltb-false _ _ (e .1);
-        not-past = ltb-false _ _ (h .1 .1 .1 .1 .1 .0);
-        in-time = leb-false _ _ (h .1 .1 .1 .1 .1 .1 .0);
-        unsent = ltb-false _ _ (h .1 .1 .1 .1 .1 .1 .1 .0);
-      }
-
-  send-passes : (q i t : ℕ) (payload : List ℕ) → CanSend p w q i t payload → Passed (sendLines (w .state) p (w .memory) q i t payload)
-  send-passes q i t payload h =
-      (rw (h .sound), (le-ltb _ _ (h .room), (rw (eq-eqb (length payload) payloadBytes (h .width)), (rw (lt-ltb q (p .queues) (h .queue), lt-ltb i (p .tasks) (h .sender .row), h .sender .on), (rw (le-ltb lastTick t (h .tick-fits), le-ltb lastTick (runningDeadline (queueAt p q) i t) (h .deadline-fits)), (le-ltb _ _ (h .not-past), (lt-leb _ _ (h .in-time), (le-ltb _ _ (h .unsent), (tt)))))))))
-
-  pub can-receive : (q t : ℕ) → Passed (receiveLines (w .state) p (w .memory) q t) → CanReceive p w q t
-  can-receive q t h =
-      record {
-        sound = not-false (soundPlan p) (h .0);
-        room = ltb-false _ _ (h .1 .0);
-        queue = ltb-true _ _ (not-false (ltb q (p .queues)) (h .1 .1 .0));
-        tick-fits = ltb-false _ _ (h .1 .1 .1 .0);
-        not-past = ltb-false _ _ (h .1 .1 .1 .1 .0);
-        in-time = leb-false _ _ (h .1 .1 .1 .1 .1 .0);
-      }
-
-  receive-passes : (q t : ℕ) → CanReceive p w q t → Passed (receiveLines (w .state) p (w .memory) q t)
-  receive-passes q t h =
-      (rw (h .sound), (le-ltb _ _ (h .room), (rw (lt-ltb q (p .queues) (h .queue)), (le-ltb _ _ (h .tick-fits), (le-ltb _ _ (h .not-past), (lt-leb _ _ (h .in-time), (tt)))))))
-
   -- ## What an accepted call leaves
 
   abbrev pub numberAt : ℕ → ℕ → ℕ → ℕ
@@ -110,17 +56,17 @@ module _ (p : Plan) (w : World) where
   pub send-stores : (q i t : ℕ) (payload : List ℕ) → CanSend p w q i t payload →
       sendSays p w q i t payload ≡ Sent.Stored (message (numberAt q i t)) (slot (slotIn p q (numberAt q i t)))
   unfolding sendAnswer
-  send-stores q i t payload h = passed-good (sendLines (w .state) p (w .memory) q i t payload) Sent.Refused _ (send-passes q i t payload h)
+  send-stores q i t payload h = passed-good (sendLines (w .state) p (w .memory) q i t payload) Sent.Refused _ (send-passes h)
 
   pub receive-finds : (q t : ℕ) → CanReceive p w q t → next q t ≤ lastAt q t → receiveSays p w q t ≡ found p (w .memory) q (next q t)
   unfolding look
   receive-finds q t h l =
-      passed-good (receiveLines (w .state) p (w .memory) q t) Received.Refused _ (receive-passes q t h) ∙ rw (le-ltb (lastAt q t) (next q t) l)
+      passed-good (receiveLines (w .state) p (w .memory) q t) Received.Refused _ (receive-passes h) ∙ rw (le-ltb (lastAt q t) (next q t) l)
 
   pub receive-ends : (q t : ℕ) → CanReceive p w q t → lastAt q t < next q t → receiveSays p w q t ≡ Received.Empty
   unfolding look
   receive-ends q t h l =
-      passed-good (receiveLines (w .state) p (w .memory) q t) Received.Refused _ (receive-passes q t h) ∙ rw (lt-ltb (lastAt q t) (next q t) l)
+      passed-good (receiveLines (w .state) p (w .memory) q t) Received.Refused _ (receive-passes h) ∙ rw (lt-ltb (lastAt q t) (next q t) l)
 
   pub receive-refused : (q t : ℕ) (r : Refusal) → Stopped (receiveLines (w .state) p (w .memory) q t) r → receiveSays p w q t ≡ Received.Refused r
   unfolding look
@@ -161,7 +107,7 @@ module _ (p : Plan) (w : World) where
   unfolding after sendState sendMemory
   after-send q i t payload h =
       let lines : List Line = sendLines (w .state) p (w .memory) q i t payload in
-      let passed : Passed lines = send-passes p w q i t payload h in
+      let passed : Passed lines = send-passes h in
       leaves (passed-good lines (λ r. w .state) _ passed) (passed-good lines (λ r. w .memory) _ passed)
 
   send-step : (q i t : ℕ) (payload : List ℕ) → Step p w (send q i t payload) (after p w (send q i t payload))
@@ -173,7 +119,7 @@ module _ (p : Plan) (w : World) where
 
       go : Passed lines ⊎ ((r : Refusal) × Stopped lines r) → Step p w (send q i t payload) (after p w (send q i t payload))
       go (inl h) =
-          let can : CanSend p w q i t payload = can-send p w q i t payload h in
+          let can : CanSend p w q i t payload = send-passed (w .state .tick .0) (lastSent (w .state) q i) p (w .memory) q i t payload h in
           subst (λ (x : World). Step p w (send q i t payload) x) (sym (after-send q i t payload can)) (sends can)
       go (inr h) =
           subst (λ (x : World). Step p w (send q i t payload) x)
@@ -235,8 +181,8 @@ module _ (p : Plan) (w : World) where
 
       go : Passed lines ⊎ ((r : Refusal) × Stopped lines r) → (lastAt p w q t < next p w q t) ⊎ (next p w q t ≤ lastAt p w q t) →
           Step p w (receive q t) (after p w (receive q t))
-      go (inl h) (inl l) = let can : CanReceive p w q t = can-receive p w q t h in leaving (after-ends q t can l) (ends can l)
-      go (inl h) (inr l) = let can : CanReceive p w q t = can-receive p w q t h in leaving (after-finds q t can l) (finds can l)
+      go (inl h) (inl l) = let can : CanReceive p w q t = receive-passed (w .state .tick .0) p (w .memory) q t h in leaving (after-ends q t can l) (ends can l)
+      go (inl h) (inr l) = let can : CanReceive p w q t = receive-passed (w .state .tick .0) p (w .memory) q t h in leaving (after-finds q t can l) (finds can l)
       go (inr h) l =
           let e : receiveSays p w q t ≡ Received.Refused (h .0) = receive-refused p w q t (h .0) (h .1) in
           leaving (by-answer q t (Received.Refused (h .0)) e) (stays (record { no-send = λ r n payload s. elim s [ ]; no-reading = quiet (h .0) e }))

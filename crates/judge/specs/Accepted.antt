@@ -1,6 +1,6 @@
--- What holds of a running call that no line of the table refuses, in plain facts.
+-- What holds of a running call exactly when no line of the table refuses it, in plain facts.
 use Rattle.common.specs.Words.{ℕ, _+_, _-_, _*_, _<_, _≤_, arith, Bool, true, false, not, _||_, List, _∷_, _≡_, refl, sym, _∙_, ltb, eqb, length}
-use Rattle.common.specs.Words.{getD, ltb-true, ltb-false, leb-false, eqb-true, not-false}
+use Rattle.common.specs.Words.{getD, ltb-true, ltb-false, leb-false, eqb-true, not-false, le-ltb, lt-ltb, lt-leb, eq-eqb}
 use Rattle.common.specs.Tests.{passed}
 use Rattle.common.specs.Totals.{sum-next}
 use Rattle.model.specs.Model.{Sender, receiverPeriod, wantedFor, wantedUntil}
@@ -16,7 +16,7 @@ use Rattle.plan.specs.Verdicts.{verdict, Passed, clear-passed}
 use Rattle.plan.specs.declared.Plan.{Plan}
 use Rattle.plan.specs.declared.refusal.Rule.the-variants.{ShortMemory}
 use Rattle.plan.specs.declared.refusal.Verdict.{Verdict}
-use Rattle.judge.specs.Lines.{groundLines, startLines, sendLines, receiveLines, runningJob, runningDeadline, receivingJob}
+use Rattle.judge.specs.Lines.{groundLines, startLines, runningLines, sendLines, receiveLines, runningJob, runningDeadline, receivingJob}
 
 -- the two parts of a test that failed
 or-left : (a b : Bool) → (a || b) ≡ false → a ≡ false
@@ -83,6 +83,9 @@ ground-passed p m h = record {
   room = ltb-false (length m) (slotsOf p * slotBytes) (h .1 .0);
 }
 
+seven : {p : Plan} {m : List ℕ} → Ground p m → not (soundPlan p) ≡ false
+seven {p} g = rw (sound-iff p .1 (g .sound))
+
 -- from a verdict v that was made of the lines and told to be clear, as the code's proofs have it
 pub ground-clear : (p : Plan) (m : List ℕ) {v : Verdict} → v ≡ verdict (startLines p m) → v ≡ Verdict.Clear → Ground p m
 ground-clear p m e h = ground-passed p m (clear-passed (startLines p m) (sym e ∙ h))
@@ -100,10 +103,9 @@ pub record SendTaken (before sent : ℕ) (p : Plan) (m : List ℕ) (q i t : ℕ)
   pub running : t < runningDeadline (queueAt p q) i t
   pub unsent : sent ≤ runningJob (queueAt p q) i t
 
-pub send-taken : (before sent : ℕ) (p : Plan) (m : List ℕ) (q i t : ℕ) (payload : List ℕ) {v : Verdict} →
-    v ≡ verdict (sendLines before sent p m q i t payload) → v ≡ Verdict.Clear → SendTaken before sent p m q i t payload
-send-taken before sent p m q i t payload e f =
-    let h = clear-passed (sendLines before sent p m q i t payload) (sym e ∙ f) in
+pub send-passed : (before sent : ℕ) (p : Plan) (m : List ℕ) (q i t : ℕ) (payload : List ℕ) → Passed (sendLines before sent p m q i t payload) →
+    SendTaken before sent p m q i t payload
+send-passed before sent p m q i t payload h =
     let g = h .1 .1 in
     let c = connected-iff p q i .0 (not-false (connected p q i) (g .1 .0)) in
     let l = g .1 .1 in
@@ -120,6 +122,22 @@ send-taken before sent p m q i t payload e f =
       unsent = ltb-false (runningJob (queueAt p q) i t) sent (l .1 .1 .1 .0);
     }
 
+pub send-passes : {before sent : ℕ} {p : Plan} {m : List ℕ} {q i t : ℕ} {payload : List ℕ} → SendTaken before sent p m q i t payload →
+    Passed (sendLines before sent p m q i t payload)
+send-passes {before} {sent} {p} {m} {q} {i} {t} {payload} h =
+    let eleven : (ltb lastTick t || ltb lastTick (runningDeadline (queueAt p q) i t)) ≡ false =
+    rw (le-ltb lastTick t (h .tick-within), le-ltb lastTick (runningDeadline (queueAt p q) i t) (h .deadline-within)) in
+    let lines : Passed (runningLines before sent (queueAt p q .period i) (queueAt p q .deadline i) t) =
+    (eleven, (le-ltb _ _ (h .in-order), (lt-leb _ _ (h .running), (le-ltb _ _ (h .unsent), tt)))) in
+    let nine : not (connected p q i) ≡ false = rw (connected-iff p q i .1 (h .queue, h .sender)) in
+    let fourteen : not (eqb (length payload) payloadBytes) ≡ false = rw (eq-eqb (length payload) payloadBytes (h .whole)) in
+    (seven (h .ground), (le-ltb _ _ (h .ground .room), (fourteen, (nine, lines))))
+
+pub send-taken : (before sent : ℕ) (p : Plan) (m : List ℕ) (q i t : ℕ) (payload : List ℕ) {v : Verdict} →
+    v ≡ verdict (sendLines before sent p m q i t payload) → v ≡ Verdict.Clear → SendTaken before sent p m q i t payload
+send-taken before sent p m q i t payload e f =
+    send-passed before sent p m q i t payload (clear-passed (sendLines before sent p m q i t payload) (sym e ∙ f))
+
 -- ## Receive
 
 pub record ReceiveTaken (before : ℕ) (p : Plan) (m : List ℕ) (q t : ℕ) : Type 0 where
@@ -129,10 +147,8 @@ pub record ReceiveTaken (before : ℕ) (p : Plan) (m : List ℕ) (q t : ℕ) : T
   pub in-order : before ≤ t
   pub wanted : t < wantedUntil (queueAt p q) (receivingJob (queueAt p q) t)
 
-pub receive-taken : (before : ℕ) (p : Plan) (m : List ℕ) (q t : ℕ) {v : Verdict} →
-    v ≡ verdict (receiveLines before p m q t) → v ≡ Verdict.Clear → ReceiveTaken before p m q t
-receive-taken before p m q t e f =
-    let h = clear-passed (receiveLines before p m q t) (sym e ∙ f) in
+pub receive-passed : (before : ℕ) (p : Plan) (m : List ℕ) (q t : ℕ) → Passed (receiveLines before p m q t) → ReceiveTaken before p m q t
+receive-passed before p m q t h =
     let g = h .1 .1 in
     record {
       ground = ground-passed p m (h .0, (h .1 .0, tt));
@@ -141,3 +157,12 @@ receive-taken before p m q t e f =
       in-order = ltb-false t before (g .1 .1 .0);
       wanted = leb-false (wantedUntil (queueAt p q) (receivingJob (queueAt p q) t)) t (g .1 .1 .1 .0);
     }
+
+pub receive-passes : {before : ℕ} {p : Plan} {m : List ℕ} {q t : ℕ} → ReceiveTaken before p m q t → Passed (receiveLines before p m q t)
+receive-passes {before} {p} {m} {q} {t} h =
+    let nine : not (ltb q (p .queues)) ≡ false = rw (lt-ltb q (p .queues) (h .queue)) in
+    (seven (h .ground), (le-ltb _ _ (h .ground .room), (nine, (le-ltb _ _ (h .tick-within), (le-ltb _ _ (h .in-order), (lt-leb _ _ (h .wanted), tt))))))
+
+pub receive-taken : (before : ℕ) (p : Plan) (m : List ℕ) (q t : ℕ) {v : Verdict} →
+    v ≡ verdict (receiveLines before p m q t) → v ≡ Verdict.Clear → ReceiveTaken before p m q t
+receive-taken before p m q t e f = receive-passed before p m q t (clear-passed (receiveLines before p m q t) (sym e ∙ f))

@@ -1,14 +1,15 @@
 // The tests of the running calls behind rule 7, in the order in which document 01 has them: the first that fails says the refusal. They
 // are inner functions: rule 7 is the caller's, since a caller that keeps its plan needs to test it only once. What is reckoned for a
-// test fits its type, because the tests before it have passed.
+// test fits its type, because the tests before it have passed. What sends and receives ask is lent the columns of a plan, all of them, because
+// the contract is about the plan that they make (`lentPlan`).
 use calendar::Tick;
 use plan::Plan;
 use plan::refusal::Refusal;
 use plan::refusal::Rule;
 use plan::refusal::Verdict;
-ghost use Rattle.common.specs.Words.{_≡_, true, false, _&&_, _+_, _-_, _*_, _≤_, ltb, getD};
+ghost use Rattle.common.specs.Words.{_≡_, true, _+_, _-_, _*_, _≤_, ltb, getD};
 ghost use Rattle.calendar.specs.Calendar.{tick};
-ghost use Rattle.plan.specs.Limits.{taskLimit, queueLimit, longestPeriod, mostSlots, lastTick, slotBytes};
+ghost use Rattle.plan.specs.Limits.{queueLimit, longestPeriod, mostSlots, lastTick, slotBytes};
 ghost use Rattle.plan.specs.Refusals.{unnamed};
 ghost use Rattle.plan.specs.Plan.{lentPlan};
 ghost use Rattle.plan.specs.Rules.{soundPlan};
@@ -93,26 +94,6 @@ fn judge_running(period: u64, deadline: u64, at: Tick, last: Tick, sent: u64) ->
     Verdict::Clear
 }
 
-// Rule 9, from the plan's counts and connections: whether the task sends into the queue, and both are there.
-fn connected(
-    queues: usize,
-    tasks: usize,
-    sends: &[bool; Plan::CELLS],
-    queue: usize,
-    task: usize,
-) -> bool
-    requires { ⌜ (queues ≤ queueLimit) × (tasks ≤ taskLimit) ⌝ }
-    ensures { λ r. ⌜ r ≡ (ltb queue queues && (ltb task tasks && getD (now (sends .entry)) (queue * taskLimit + task) false)) ⌝ }
-{
-    if queues <= queue {
-        return false;
-    }
-    if tasks <= task {
-        return false;
-    }
-    sends[queue * Plan::TASKS + task]
-}
-
 // Rules 8, 14, 9, 11, 10, 12, 13.
 pub fn judge_send<'a>(
     sends: &'a [bool; Plan::CELLS],
@@ -142,7 +123,7 @@ pub fn judge_send<'a>(
     if payload.len() != Plan::PAYLOAD_BYTES {
         return refused(Rule::PayloadLength);
     }
-    if !connected(queues, tasks, sends, queue, task) {
+    if !rules::connected(queues, tasks, sends, queue, task) {
         return refused(Rule::NoSuchSender);
     }
     judge_running(period[task], deadline[task], at, last, sent)

@@ -1,7 +1,6 @@
 -- Where the next line of a block ends, and what feeding the block is in these terms.
 use Rattle.common.specs.Words.{ℕ, zero, suc, _+_, _<_, _≤_, arith, add-one, Bool, true, false, cond, true≢false, List, [], _∷_, _++_, append-assoc}
-use Rattle.common.specs.Words.{append-nil, _≡_, refl, ap, _∙_, eqb, length, take, drop, getD, drop-of-length-le, drop-cons, eq-eqb, ne-eqb}
-use Rattle.common.specs.Words.{eqb-false}
+use Rattle.common.specs.Words.{append-nil, _≡_, refl, ap, _∙_, eqb, length, take, drop, getD, drop-of-length-le, drop-cons, eq-eqb, ne-eqb, eqb-false}
 use Rattle.lines.specs.Lines.{lineFeed, cut, after, fed}
 use Rattle.lines.specs.Whole.{cut-append, cut-short, cut-length}
 

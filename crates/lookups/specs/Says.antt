@@ -1,20 +1,14 @@
--- What the lookups answer in document 01's numbers: the number of the rule that refuses, 0 where none does, and the values.
--- `row`, the value of a refusal, is 0 in all of them: "all others name 0".
-use Rattle.common.specs.Words.{ℕ, cond, not, List, [], _∷_, _≡_, ltb, eqb}
+-- What the lookups answer in document 01's numbers. The console has no line for them, so an answer that is no refusal has code 0 and its
+-- values.
+use Rattle.common.specs.Words.{ℕ, cond, not, [], _∷_, _≡_, ltb, eqb}
 use Rattle.model.specs.Model.{receiverPeriod, released, deadlineOf, number, upTo, senderOf, jobOf, first, last}
-use Rattle.lookups.specs.Types.{Job, Number, Plan, Refusal, Numbered, Origins, Window}
+use Rattle.lookups.specs.Types.{Job, Number, Plan, Numbered, Origins, Window}
 use Rattle.plan.specs.Limits.{lastTick}
 use Rattle.plan.specs.Plan.{queueAt}
-use Rattle.plan.specs.Refusals.{numberOf}
+use Rattle.plan.specs.Says.{Said, refusedSays, no}
 use Rattle.plan.specs.Verdicts.{judged-map}
 use Rattle.plan.specs.Rules.{soundPlan, connected}
 use Rattle.lookups.specs.Lookups.{numberLines, numberedOf, originLines, originsOf, windowLines, windowOf}
-
-abbrev pub Said : Type 0
-Said = ℕ × List ℕ
-
-abbrev pub refusedSays : Refusal → Said
-refusedSays r = (numberOf (r .rule), r .row ∷ [])
 
 -- the number
 abbrev pub numberedSays : Numbered → Said
@@ -30,9 +24,6 @@ originsSays (Origins.Refused r) = refusedSays r
 abbrev pub windowSays : Window → Said
 windowSays (Window.Numbers a b) = (0, a .0 ∷ b .0 ∷ [])
 windowSays (Window.Refused r) = refusedSays r
-
-abbrev pub no : ℕ → Said
-no rule = (rule, 0 ∷ [])
 
 -- "lookups 7, 9, then 11 or 15"
 pub number-says : (p : Plan) (q i : ℕ) (k : Job) →

@@ -36,7 +36,7 @@ pub fn number_of(plan: Plan, queue: usize, task: usize, job: Job) -> Numbered
             row: 0,
         });
     }
-    if !numbering::reach::connected(plan, queue, task) {
+    if !rules::connected(plan.queues, plan.tasks, &plan.sends, queue, task) {
         return Numbered::Refused(Refusal {
             rule: Rule::NoSuchSender,
             row: 0,

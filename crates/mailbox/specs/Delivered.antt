@@ -14,7 +14,8 @@ use Rattle.plan.specs.Sound.{sound-iff, usable}
 use Rattle.judge.specs.Accepted.{SendTaken, send-taken}
 use Rattle.slots.specs.Slots.{slotAt, numberIn, payloadIn, stored}
 use Rattle.slots.specs.SlotLaws.{number-same, payload-same, length-stored, number-cleared}
-use Rattle.mailbox.specs.Calls.{startLines, startAnswer, startMemory, sendLines, runningJob, runningNumber, runningDeadline, slotFor, lastSent, sendAnswer, sendState, sendMemory, receiveLines, receivingJob, nextNumber, found, look}
+use Rattle.mailbox.specs.Calls.{startLines, startAnswer, startMemory, sendLines, runningJob, runningNumber, runningDeadline, slotFor, lastSent}
+use Rattle.mailbox.specs.Calls.{sendAnswer, sendState, sendMemory, receiveLines, receivingJob, nextNumber, found, look}
 use Rattle.mailbox.specs.View.{viewOf}
 use Rattle.plan.specs.Verdicts.{verdict, outcome, by-verdict, by-clear, Passed, passed-clear}
 use Rattle.mailbox.specs.Bounds.{slot-inside, count-small}

@@ -7,7 +7,8 @@ use Rattle.plan.specs.Limits.{taskLimit, payloadBytes}
 use Rattle.plan.specs.Plan.{queueAt, slotsOf}
 use Rattle.mailbox.specs.Types.{Plan, Refusal, Verdict, State, Started, Sent, Starting, Sending, Receiving, Received}
 use Rattle.slots.specs.Slots.{stored, cleared}
-use Rattle.mailbox.specs.Calls.{fresh, startLines, startAnswer, startMemory, sendLines, runningNumber, slotIn, slotFor, sendAnswer, sentState, sendState, sendMemory, receivingJob, nextNumber, found, look, receiveState}
+use Rattle.mailbox.specs.Calls.{fresh, startLines, startAnswer, startMemory, sendLines, runningNumber, slotIn, slotFor, sendAnswer, sentState}
+use Rattle.mailbox.specs.Calls.{sendState, sendMemory, receivingJob, nextNumber, found, look, receiveState}
 use Rattle.plan.specs.Verdicts.{verdict, by-refusal, by-clear}
 
 abbrev pub starting : Plan → List ℕ → Starting

@@ -6,7 +6,8 @@ use Rattle.plan.specs.Refusals.{Line, judged}
 use Rattle.mailbox.specs.Types.{Plan, Refusal, Verdict, State, Started, Sent, Received}
 use Rattle.model.specs.Model.{last, senderOf}
 use Rattle.calendar.specs.Calendar.{message, slot}
-use Rattle.mailbox.specs.Calls.{startLines, startAnswer, startMemory, sendLines, sendAnswer, sendState, sendMemory, receiveLines, slotFor, receivingJob, nextNumber, look, found, receiveState}
+use Rattle.mailbox.specs.Calls.{startLines, startAnswer, startMemory, sendLines, sendAnswer, sendState, sendMemory, receiveLines}
+use Rattle.mailbox.specs.Calls.{slotFor, receivingJob, nextNumber, look, found, receiveState}
 use Rattle.slots.specs.Slots.{numberIn}
 use Rattle.mailbox.specs.Outcomes.{accepted}
 use Rattle.plan.specs.Verdicts.{verdict, outcome, by-verdict, Stopped, verdict-stopped, stopped-verdict}

@@ -1,22 +1,16 @@
 -- What the running calls answer in document 01's numbers: the code by which the console names each kind of answer, and its values.
--- A refusal's values are the number of its line in the table and its row, which is 0 in all running calls.
 use Rattle.common.specs.Words.{ℕ, _*_, cond, not, _||_, List, [], _∷_, _≡_, leb, ltb, eqb, length}
 use Rattle.model.specs.Model.{wantedUntil}
 use Rattle.plan.specs.Limits.{lastTick, payloadBytes, slotBytes}
 use Rattle.plan.specs.Plan.{queueAt, slotsOf}
-use Rattle.plan.specs.Refusals.{numberOf}
+use Rattle.plan.specs.Says.{Said, refusedSays, no}
 use Rattle.plan.specs.Rules.{soundPlan, connected}
-use Rattle.mailbox.specs.Types.{Plan, Refusal, State, Started, Sent, Received}
+use Rattle.mailbox.specs.Types.{Plan, State, Started, Sent, Received}
 use Rattle.judge.specs.Lines.{sentAlready}
-use Rattle.mailbox.specs.Calls.{startLines, startAnswer, sendLines, runningJob, runningDeadline, runningNumber, slotIn, lastSent, sendAnswer, receiveLines, receivingJob, look}
+use Rattle.mailbox.specs.Calls.{startLines, startAnswer, sendLines, runningJob, runningDeadline, runningNumber, slotIn}
+use Rattle.mailbox.specs.Calls.{lastSent, sendAnswer, receiveLines, receivingJob, look}
 use Rattle.plan.specs.Verdicts.{judged-map}
 use Rattle.mailbox.specs.Outcomes.{accepted}
-
-abbrev pub Said : Type 0
-Said = ℕ × List ℕ
-
-abbrev pub refusedSays : Refusal → Said
-refusedSays r = (0x7f, numberOf (r .rule) ∷ r .row ∷ [])
 
 abbrev pub startedSays : Started → Said
 startedSays Started.Ready = (0x81, [])
@@ -33,9 +27,6 @@ receivedSays (Received.Message n at) = (0x85, n .0 ∷ at .0 ∷ [])
 receivedSays (Received.Gap n row) = (0x86, n .0 ∷ row ∷ [])
 receivedSays Received.Empty = (0x87, [])
 receivedSays (Received.Refused r) = refusedSays r
-
-abbrev pub no : ℕ → Said
-no line = (0x7f, line ∷ 0 ∷ [])
 
 -- "Running calls test 7, 8, 14, 9, 11, 10, 12, 13, as far as each applies"
 pub start-says : (p : Plan) (m : List ℕ) →

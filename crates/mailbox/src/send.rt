@@ -1,4 +1,5 @@
-// Send: a task's message into its slot, at most one for each job.
+// Send: a task's message into its slot, at most one for each job. `send_on` is lent the columns of a plan, because a plan by value would be
+// copied for each line of the console.
 use crate::Sending;
 use crate::Sent;
 use crate::State;
@@ -12,11 +13,11 @@ use plan::refusal::Verdict;
 ghost use Rattle.common.specs.Words.{_≡_, true, _+_, _*_, _<_, _≤_, getD};
 ghost use Rattle.calendar.specs.Calendar.{message, job};
 ghost use Rattle.plan.specs.Limits.{taskLimit, queueLimit, lastTick};
-ghost use Rattle.plan.specs.Plan.{lentPlan, queueAt};
+ghost use Rattle.plan.specs.Plan.{lentPlan};
 ghost use Rattle.plan.specs.Rules.{soundPlan};
 ghost use Rattle.counting.specs.Columns.{columnsAt, Lent};
 ghost use Rattle.mailbox.specs.declared.State.{State};
-ghost use Rattle.mailbox.specs.Calls.{runningJob, runningDeadline, runningNumber, sendAnswer, sendMemory};
+ghost use Rattle.mailbox.specs.Calls.{runningDeadline, runningNumber, sendAnswer, sendMemory};
 ghost use Rattle.mailbox.specs.Known.{SendsFrom};
 ghost use Rattle.mailbox.specs.Outcomes.{sending, recorded};
 
@@ -111,14 +112,6 @@ pub fn last_sent(sent: &[u64; Plan::CELLS], queue: usize, task: usize) -> u64
     sent[queue * Plan::TASKS + task]
 }
 
-// The task's job that was released last.
-fn running_job(plan: Plan, queue: usize, task: usize, at: Tick) -> Job
-    requires { ⌜ (task < taskLimit) × (1 ≤ getD (plan .period) task 0) ⌝ }
-    ensures { λ r. ⌜ r ≡ job (runningJob (queueAt plan queue) task (at .0)) ⌝ }
-{
-    calendar::job_at(plan.period[task], at)
-}
-
 impl State {
     // The task's job has sent into the queue.
     fn recorded(mut self, queue: usize, task: usize, at: Tick, job: Job) -> State
@@ -176,7 +169,7 @@ impl State {
                 state: self,
             };
         }
-        let job = running_job(plan, queue, task, at);
+        let job = calendar::job_at(plan.period[task], at);
         Sending {
             answer,
             state: self.recorded(queue, task, at, job),

@@ -8,8 +8,29 @@ use plan::refusal::Refusal;
 use plan::refusal::Rule;
 use plan::refusal::Verdict;
 ghost use Rattle.common.specs.Words.{_≡_};
-ghost use Rattle.mailbox.specs.Calls.{fresh, startMemory};
+ghost use Rattle.mailbox.specs.Calls.{fresh, startAnswer, startMemory};
 ghost use Rattle.mailbox.specs.Outcomes.{starting};
+
+// What a start answers; where it accepts the plan it clears its slots.
+fn started(plan: Plan, memory: &mut [u8]) -> Started
+    ensures { λ r. ⌜ (r ≡ startAnswer plan (now (memory .entry))) × (now (memory .exit) ≡ startMemory plan (now (memory .entry))) ⌝ }
+{
+    if !soundness::sound(plan) {
+        return Started::Refused(Refusal {
+            rule: Rule::UnsoundPlan,
+            row: 0,
+        });
+    }
+    let verdict = judge::judge_start(plan, memory);
+    if let Verdict::Refused(refusal) = verdict {
+        return Started::Refused(refusal);
+    }
+    slots::clear(
+        memory,
+        judge::slots_of(plan.queues, &plan.size, &plan.place),
+    );
+    Started::Ready
+}
 
 impl State {
     // Nothing sent, nothing read, tick 0.
@@ -27,28 +48,8 @@ impl State {
     pub fn start(plan: Plan, memory: &mut [u8]) -> Starting
         ensures { λ r. ⌜ (r ≡ starting plan (now (memory .entry))) × (now (memory .exit) ≡ startMemory plan (now (memory .entry))) ⌝ }
     {
-        if !soundness::sound(plan) {
-            return Starting {
-                answer: Started::Refused(Refusal {
-                    rule: Rule::UnsoundPlan,
-                    row: 0,
-                }),
-                state: State::fresh(),
-            };
-        }
-        let verdict = judge::judge_start(plan, memory);
-        if let Verdict::Refused(refusal) = verdict {
-            return Starting {
-                answer: Started::Refused(refusal),
-                state: State::fresh(),
-            };
-        }
-        slots::clear(
-            memory,
-            judge::slots_of(plan.queues, &plan.size, &plan.place),
-        );
         Starting {
-            answer: Started::Ready,
+            answer: started(plan, memory),
             state: State::fresh(),
         }
     }

@@ -1,7 +1,8 @@
 -- Message numbers: equation 2 is one more than the count of the messages before. The numbers rise with the order, and each from 1 on
 -- belongs to exactly one message, whose deadline is the least tick with so many messages up to it.
 use Rattle.common.specs.Words.{ℕ, suc, _+_, _-_, _*_, _<_, _≤_, arith, ℕ-discrete, Bool, true, false, _↔_, ⊎-elim, _≡_, refl, sym, subst, _∙_, eqb}
-use Rattle.common.specs.Totals.{only, sum, only-le, only-eq, only-most, only-zero, sum-le, sum-bound, sum-ext, sum-add, sum-one, sum-zero, sum-at, only-self, only-other, crossing}
+use Rattle.common.specs.Totals.{only, sum, only-le, only-eq, only-most, only-zero, sum-le, sum-bound, sum-ext, sum-add}
+use Rattle.common.specs.Totals.{sum-one, sum-zero, sum-at, only-self, only-other, crossing}
 use Rattle.model.specs.Model.{Queue, Valid, Sender, hasDeadline, deadlineOf, countOf, upTo, dueAt, precedes, followers, number, Before, jobsBefore}
 use Rattle.common.specs.Tests.{lt-or-le, true-or-false, having, clash, and-left, and-right}
 use Rattle.common.specs.Rank.{size, rank, rank-less, rank-onto}

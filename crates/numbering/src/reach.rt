@@ -1,25 +1,10 @@
-// What a lookup can reach: a task that sends into the queue (rule 9), and a job whose tick is not past the last one (rule 11).
+// What a lookup can reach: a job whose tick is not past the last one (rule 11).
 use calendar::Job;
 use plan::Plan;
 ghost use Rattle.common.specs.Words.{_≡_, _<_, _≤_, ltb};
 ghost use Rattle.model.specs.Model.{due, released, receiverPeriod, deadlineOf};
-ghost use Rattle.plan.specs.Limits.{taskLimit, queueLimit, longestPeriod, lastTick};
+ghost use Rattle.plan.specs.Limits.{longestPeriod, lastTick};
 ghost use Rattle.plan.specs.Plan.{queueAt, Usable};
-ghost use Rattle.plan.specs.Rules.{connected};
-
-// Whether the task sends into the queue, and both are there.
-pub fn connected(plan: Plan, queue: usize, task: usize) -> bool
-    requires { ⌜ (plan .tasks ≤ taskLimit) × (plan .queues ≤ queueLimit) ⌝ }
-    ensures { λ r. ⌜ r ≡ connected plan queue task ⌝ }
-{
-    if plan.queues <= queue {
-        return false;
-    }
-    if plan.tasks <= task {
-        return false;
-    }
-    plan.sends[queue * Plan::TASKS + task]
-}
 
 // Whether the tick that lies `after` ticks behind a job's release is past the last tick. Jobs past it are told apart first, since a
 // period is at least 1: what is reckoned then fits.

@@ -1,5 +1,6 @@
 pub mod Limits
 pub mod Refusals
+pub mod Says
 pub mod Plan
 pub mod Square
 pub mod Rules

@@ -1,7 +1,9 @@
 -- Document 01's refusals: the number of each rule, and the answer of a chain of tests.
 use Rattle.common.specs.Words.{ℕ, Bool, cond, List, [], _∷_}
 use Rattle.plan.specs.declared.refusal.Rule.{Rule}
-use Rattle.plan.specs.declared.refusal.Rule.the-variants.{TaskOrQueueCount, PeriodOrDeadline, ReceiverOrSender, HyperperiodTooLong, TooManyMessages, TooManySlots, UnsoundPlan, ShortMemory, NoSuchSender, TickBeforeState, PastLastTick, JobOver, SentAlready, PayloadLength, NoSuchNumber}
+use Rattle.plan.specs.declared.refusal.Rule.the-variants.{TaskOrQueueCount, PeriodOrDeadline, ReceiverOrSender, HyperperiodTooLong}
+use Rattle.plan.specs.declared.refusal.Rule.the-variants.{TooManyMessages, TooManySlots, UnsoundPlan, ShortMemory, NoSuchSender}
+use Rattle.plan.specs.declared.refusal.Rule.the-variants.{TickBeforeState, PastLastTick, JobOver, SentAlready, PayloadLength, NoSuchNumber}
 use Rattle.plan.specs.declared.refusal.Refusal.{Refusal}
 
 abbrev pub numberOf : Rule → ℕ

@@ -3,7 +3,8 @@
 pub mod refusal; // refusal.rt: the rules that a call can break, and the refusal that it is answered with
 
 ghost use Rattle.common.specs.Words.{_≡_, true};
-ghost use Rattle.plan.specs.Limits.{taskLimit, queueLimit, cellLimit, longestPeriod, longestHyperperiod, mostMessages, mostSlots, lastTick, payloadBytes, slotBytes};
+ghost use Rattle.plan.specs.Limits.{taskLimit, queueLimit, cellLimit, longestPeriod, longestHyperperiod, mostMessages};
+ghost use Rattle.plan.specs.Limits.{mostSlots, lastTick, payloadBytes, slotBytes};
 ghost use Rattle.plan.specs.Plan.{zeros};
 
 pub struct Plan {

@@ -1,6 +1,7 @@
 // Rules 1, 2 and 3: what a task table has to keep. Planning asks these functions of a table, and rule 7 of a plan that is handed in.
+// Rule 9, which sends and the lookup of a number ask, is here too.
 use plan::Plan;
-ghost use Rattle.common.specs.Words.{_≡_, false, _≤_, getD};
+ghost use Rattle.common.specs.Words.{_≡_, false, _&&_, _+_, _*_, _≤_, ltb, getD};
 ghost use Rattle.plan.specs.Limits.{taskLimit, queueLimit};
 ghost use Rattle.plan.specs.Rules.{oneTo, countsGood, taskGood, badTask, maySend, onlyTasksSend, firstSender, queueGood, badQueue};
 
@@ -96,4 +97,24 @@ pub fn first_bad_queue(
         }
     }
     queues
+}
+
+// Rule 9, from the plan's counts and connections: whether the task sends into the queue, and both are there.
+pub fn connected(
+    queues: usize,
+    tasks: usize,
+    sends: &[bool; Plan::CELLS],
+    queue: usize,
+    task: usize,
+) -> bool
+    requires { ⌜ (queues ≤ queueLimit) × (tasks ≤ taskLimit) ⌝ }
+    ensures { λ r. ⌜ r ≡ (ltb queue queues && (ltb task tasks && getD (now (sends .entry)) (queue * taskLimit + task) false)) ⌝ }
+{
+    if queues <= queue {
+        return false;
+    }
+    if tasks <= task {
+        return false;
+    }
+    sends[queue * Plan::TASKS + task]
 }

@@ -2,7 +2,8 @@
 -- `chart`, and how long its messages are wanted. With a plan's own columns and numbers they are those of its queue.
 use Rattle.common.specs.Words.{ℕ, _+_, _-_, _/_, _<_, _≤_, div-mul-le-self, lt-of-not-le, arith, _≡_, refl}
 use Rattle.common.specs.Totals.{most}
-use Rattle.model.specs.Model.{Queue, Valid, Sender, released, releaseOf, deadlineOf, dueAt, precedes, upTo, followers, number, receiverPeriod, wantedFor, horizon, outdated, need, rowSlots}
+use Rattle.model.specs.Model.{Queue, Valid, Sender, released, releaseOf, deadlineOf, dueAt, precedes, upTo, followers, number}
+use Rattle.model.specs.Model.{receiverPeriod, wantedFor, horizon, outdated, need, rowSlots}
 use Rattle.model.specs.Number.{number-iff}
 use Rattle.plan.specs.Plan.{queueAt}
 use Rattle.plan.specs.declared.Plan.{Plan}

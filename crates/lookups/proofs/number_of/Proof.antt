@@ -1,5 +1,9 @@
 -- `number_of`: the tests of the definition, in its order; what they leave is what the inner functions ask for.
-use Rattle.common.specs.Words.{needs, sym, _∙_, ltb-false}
+use Rattle.common.specs.Words.{Bool, true, _<_, _≡_, needs, sym, _∙_, ltb-false}
+use Rattle.model.specs.Model.{Sender}
+use Rattle.plan.specs.Plan.{queueAt, Usable}
+use Rattle.plan.specs.Rules.{soundPlan, connected}
+use Rattle.plan.specs.declared.Plan.{Plan}
 use Rattle.plan.specs.Sound.{sound-iff, usable}
 use Rattle.lookups.specs.Lookups.{numberedOf}
 use Rattle.common.specs.Tests.{failed, passed}
@@ -13,44 +17,62 @@ returns c = simp (failed (c .before .sound .ensures) (c .if1 .taken))
 
 connected-requires : tie.Need-connected-requires
 connected-requires c κs =
-    let s = sound-iff (c .before .before .args .plan) .0 (passed (c .before .sound .ensures) (c .if1 .left)) in
-    (s .checked .tasks-fit, s .checked .queues-fit)
+    let e = c .before .before in
+    let s = sound-iff _ .0 (passed (e .before .sound .ensures) (e .if1 .left)) .checked in
+    (s .queues-fit, s .tasks-fit)
+
+-- once rule 9 was tested
+module _ (x : tie.After-connected) where
+  abbrev kept : tie.Else1
+  kept = x .before .before .before
+
+  abbrev plan : Plan
+  plan = kept .before .before .args .t1
+
+  abbrev joined : Bool
+  joined = connected plan (kept .before .before .args .queue) (kept .before .before .args .task)
+
+  is-sound : soundPlan plan ≡ true
+  is-sound = passed (kept .before .sound .ensures) (kept .if1 .left)
 
 returns-2 : tie.Need-returns-2
 unfolding numberedOf
-returns-2 c =
-    let k = c .before .before in
-    simp (passed (k .before .sound .ensures) (k .if1 .left), failed (c .before .connected .ensures) (c .if2 .taken))
+returns-2 c = let x = c .before in simp (is-sound x, failed {b = joined x} (x .connected .ensures) (c .if2 .taken))
 
-deadline-past-requires : tie.Need-deadline-past-requires
-deadline-past-requires c κs =
-    let k = c .before .before in
-    let a = k .before .before .args in
-    let s = connected-iff (a .plan) (a .queue) (a .task) .0 (passed (c .before .connected .ensures) (c .if2 .left)) in
-    (usable (sound-iff (a .plan) .0 (passed (k .before .sound .ensures) (k .if1 .left))) (a .queue) (s .0), s .1 .row)
+-- where it did not apply
+module _ (y : tie.Else2) where
+  abbrev tested : tie.After-connected
+  tested = y .before
+
+  is-joined : joined tested ≡ true
+  is-joined = passed (tested .connected .ensures) (y .if2 .left)
+
+  abbrev at : tie.Start
+  at = kept tested .before .before
+
+  sends : (at .args .queue < plan tested .queues) × Sender (queueAt (plan tested) (at .args .queue)) (at .args .task)
+  sends = connected-iff (plan tested) (at .args .queue) (at .args .task) .0 is-joined
+
+  queue-usable : Usable (plan tested) (at .args .queue)
+  queue-usable = usable (sound-iff (plan tested) .0 (is-sound tested)) (at .args .queue) (sends .0)
 
 returns-3 : tie.Need-returns-3
 unfolding numberedOf
 returns-3 c =
-    let k = c .before .before in
-    let s = k .before .before in
-    simp (passed (s .before .sound .ensures) (s .if1 .left), passed (k .before .connected .ensures) (k .if2 .left), sym (c .before .deadline-past .ensures) ∙ c .if3 .taken)
+    let y = c .before .before in
+    simp (is-sound (tested y), is-joined y, sym (c .before .deadline-past .ensures) ∙ c .if3 .taken)
 
 number-at-requires : tie.Need-number-at-requires
 number-at-requires c κs =
-    let m = c .before .before in
-    let k = m .before .before in
-    let a = k .before .before .args in
-    let s = connected-iff (a .plan) (a .queue) (a .task) .0 (passed (m .before .connected .ensures) (m .if2 .left)) in
-    (usable (sound-iff (a .plan) .0 (passed (k .before .sound .ensures) (k .if1 .left))) (a .queue) (s .0), s .1, ltb-false _ _ (sym (c .before .deadline-past .ensures) ∙ c .if3 .left))
+    let y = c .before .before in
+    (queue-usable y, sends y .1, ltb-false _ _ (sym (c .before .deadline-past .ensures) ∙ c .if3 .left))
 
 returns-4 : tie.Need-returns-4
 unfolding numberedOf
 returns-4 c =
     let n = c .before in
-    let k = n .before .before in
-    let s = k .before .before in
-    simp (c .number-at .ensures, passed (s .before .sound .ensures) (s .if1 .left), passed (k .before .connected .ensures) (k .if2 .left), sym (n .before .deadline-past .ensures) ∙ n .if3 .left)
+    let y = n .before .before in
+    simp (c .number-at .ensures, is-sound (tested y), is-joined y, sym (n .before .deadline-past .ensures) ∙ n .if3 .left)
 
 pub number-of-spec : {M : Type 1} → statement M
 number-of-spec =
@@ -60,7 +82,7 @@ number-of-spec =
     returns
     connected-requires
     returns-2
-    deadline-past-requires
+    (λ y κs. (queue-usable y, sends y .1 .row))
     returns-3
     number-at-requires
     returns-4)

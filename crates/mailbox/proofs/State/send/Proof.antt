@@ -95,6 +95,9 @@ send-on-requires c κs =
     let e = c .before .before .before .before .before .before .before .before .before .before .before .before in
     passed (e .before .sound .ensures) (e .if1 .left)
 
+task-fits : (c : tie.After-enum-told2) → i (c .before .before .before .before) < taskLimit
+task-fits c = sender (c .before .before .before .before) (c .enum-told2 .given .1) .0
+
 returns-2 : tie.Need-returns-2
 returns-2 c =
     let o = c .before .before .before .before in
@@ -102,9 +105,9 @@ returns-2 c =
 
 returns-3 : tie.Need-returns-3
 returns-3 c =
-    let e = c .before .before in
+    let e = c .before .before .before in
     let o = e .before .before .before .before in (
-      made o _ (is-recorded o (e .enum-told2 .given .1) (c .before .running-job .ensures) (c .recorded .ensures)),
+      made o _ (is-recorded o (e .enum-told2 .given .1) (c .before .job-at .ensures) (c .recorded .ensures)),
       o .send-on .ensures (s o) (known o) .1,
     )
 
@@ -120,7 +123,9 @@ send-spec =
     (λ c. search needs)
     returns-2
     (λ c. search needs)
-    (λ c κs. sender (c .before .before .before .before) (c .enum-told2 .given .1))
-    (λ c κs. recordable (c .before .before .before .before .before) (c .before .enum-told2 .given .1) (c .running-job .ensures))
+    (λ c. let f = task-fits c in search needs)
+    task-fits
+    (λ c κs. let e = c .before in sender (e .before .before .before .before) (e .enum-told2 .given .1) .1)
+    (λ c κs. let e = c .before .before in recordable (e .before .before .before .before) (e .enum-told2 .given .1) (c .job-at .ensures))
     (λ c. search needs)
     returns-3)

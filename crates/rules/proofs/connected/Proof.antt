@@ -1,8 +1,8 @@
--- `connected`: each return by the tests before it.
+-- `rules::connected`: each return by the tests before it.
 use Rattle.common.specs.Words.{needs}
 use Rattle.common.specs.Tests.{tests}
-use Rattle.judge.proofs.connected.Statement.{statement}
-use Rattle.judge.proofs.connected.Tie as tie
+use Rattle.rules.proofs.connected.Statement.{statement}
+use Rattle.rules.proofs.connected.Tie as tie
 
 pub connected-spec : {M : Type 1} → statement M
 connected-spec =
