@@ -1,4 +1,5 @@
-// Receive: a look at the receiver's next message, which changes nothing, and then a step on from the answer.
+// Receive: a look at the receiver's next message, which changes nothing, and then a step on from the answer. `receive_on`, the look, is lent
+// the columns of a plan, as `send_on` is.
 use crate::Received;
 use crate::Receiving;
 use crate::State;
