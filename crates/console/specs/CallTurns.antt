@@ -4,7 +4,7 @@ use Rattle.plan.specs.Limits.{payloadBytes}
 use Rattle.slots.specs.Slots as slots
 use Rattle.mailbox.specs.Calls.{sendMemory}
 use Rattle.mailbox.specs.Outcomes.{sending, receiving}
-use Rattle.mailbox.specs.View.{slotInside, fillerFits, viewOf}
+use Rattle.running.specs.View.{slotInside, fillerFits, viewOf}
 use Rattle.frames.specs.Answers.{messageBytes}
 use Rattle.frames.specs.Writing.{Written}
 use Rattle.console.specs.Types.{Tick, Number, Slot, Sending, Received, Receiving, Desk}

@@ -6,7 +6,7 @@ use Rattle.plan.specs.Limits.{taskLimit, queueLimit, payloadBytes}
 use Rattle.plan.specs.Plan.{zeros}
 use Rattle.planning.specs.Planning.{planOf}
 use Rattle.mailbox.specs.Calls.{fresh, startAnswer, startMemory, sendAnswer, sendState, sendMemory, look, receiveState}
-use Rattle.mailbox.specs.View.{viewOf}
+use Rattle.running.specs.View.{viewOf}
 use Rattle.digits.specs.Hex.{isLine, bytesIn}
 use Rattle.frames.specs.Frames.{frameOf, payloadIn}
 use Rattle.frames.specs.Answers.{longestAnswer, sizesBytes, storedBytes, messageBytes, gapBytes, emptyBytes, refusalBytes, badBytes, lineOf}

@@ -2,7 +2,7 @@
 use Rattle.common.specs.Words.{ℕ, _≤_, arith, Bool, true, false, cond, List, _≡_, refl, length, length-append}
 use Rattle.plan.specs.Limits.{payloadBytes}
 use Rattle.mailbox.specs.Calls.{startAnswer, sendAnswer, look}
-use Rattle.mailbox.specs.View.{viewOf}
+use Rattle.running.specs.View.{viewOf}
 use Rattle.digits.specs.Hex.{isLine, bytesIn}
 use Rattle.digits.specs.NumberLaws.{bytes-length}
 use Rattle.frames.specs.Frames.{frameOf, payloadIn}

@@ -4,7 +4,7 @@ pub mod Turns
 pub mod Starts
 pub mod CallTurns
 pub mod Entries
-pub mod Stored
+pub mod Parts
 pub mod SendCalls
 pub mod ReceiveCalls
 pub mod Framing

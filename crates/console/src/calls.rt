@@ -1,5 +1,6 @@
-// Frames 04 and 05 for a caller that keeps the desk where it lies: it lends what the call looks at and stores what the call leaves. The
-// plan of such a desk is sound, so rule 7 is not tested again.
+// Frames 04 and 05 from the parts of a desk. The plan is sound where one runs, so rule 7 is not tested again.
+use crate::parts::Called;
+use crate::parts::Spot;
 use crate::run::write_received;
 use crate::run::write_sent;
 use calendar::Tick;
@@ -10,25 +11,10 @@ ghost use Rattle.common.specs.Words.{_≡_, true, _≤_, length};
 ghost use Rattle.plan.specs.Plan.{lentPlan};
 ghost use Rattle.plan.specs.Rules.{soundPlan};
 ghost use Rattle.frames.specs.Answers.{longestAnswer};
-ghost use Rattle.console.specs.Types.{Desk};
+ghost use Rattle.console.specs.Types.{Frame, Desk};
 ghost use Rattle.console.specs.Desk.{sendTurn, receiveTurn, Takes};
-ghost use Rattle.console.specs.SendCalls.{SendsOn, sent};
-ghost use Rattle.console.specs.ReceiveCalls.{Countable, leftBy, ReadsOn, read};
-
-// What a call looks at: whether a plan was started, the state's tick, and the entry of the queue and the task, or the queue's reading
-// place.
-pub struct Spot {
-    pub running: bool,
-    pub tick: u64,
-    pub entry: u64,
-}
-
-// What a call leaves in their place, and how many bytes of the buffer were written.
-pub struct Called {
-    pub tick: u64,
-    pub entry: u64,
-    pub written: usize,
-}
+ghost use Rattle.console.specs.Parts.{CallsOn, called};
+ghost use Rattle.console.specs.ReceiveCalls.{Countable, leftBy};
 
 pub fn send_line<'a>(
     sends: &'a [bool; Plan::CELLS],
@@ -49,10 +35,10 @@ pub fn send_line<'a>(
 ) -> Called
     requires { ⌜ (spot .running ≡ true → soundPlan (lentPlan (now sends) (now period) (now deadline) (now receiver) (now size) (now place) tasks queues) ≡ true)
         × (longestAnswer ≤ length (now out)) ⌝ }
-    ensures { λ r. ⌜ ((d : Desk) → SendsOn d
+    ensures { λ r. ⌜ ((d : Desk) → CallsOn d
         (lentPlan (now (sends .entry)) (now (period .entry)) (now (deadline .entry)) (now (receiver .entry)) (now (size .entry)) (now (place .entry)) tasks queues)
-        spot queue task →
-        Takes (sendTurn d (now (memory .entry)) queue task at (now (payload .entry))) (now (out .entry)) (sent d queue task r) (now (memory .exit)) (now (out .exit))) ⌝ }
+        spot (Frame.Send queue task at) →
+        Takes (sendTurn d (now (memory .entry)) queue task at (now (payload .entry))) (now (out .entry)) (called d (Frame.Send queue task at) r) (now (memory .exit)) (now (out .exit))) ⌝ }
 {
     if !spot.running {
         return Called {
@@ -61,7 +47,7 @@ pub fn send_line<'a>(
             written: frames::answers::write_bad(out),
         };
     }
-    let answer = mailbox::send::send_on(
+    let answer = running::send::send_on(
         sends,
         period,
         deadline,
@@ -140,10 +126,10 @@ pub fn receive_line<'a>(
 ) -> Called
     requires { ⌜ (spot .running ≡ true → soundPlan (lentPlan (now sends) (now period) (now deadline) (now receiver) (now size) (now place) tasks queues) ≡ true)
         × (longestAnswer ≤ length (now out)) ⌝ }
-    ensures { λ r. ⌜ ((d : Desk) → ReadsOn d
+    ensures { λ r. ⌜ ((d : Desk) → CallsOn d
         (lentPlan (now (sends .entry)) (now (period .entry)) (now (deadline .entry)) (now (receiver .entry)) (now (size .entry)) (now (place .entry)) tasks queues)
-        spot queue →
-        Takes (receiveTurn d (now (memory .entry)) queue at) (now (out .entry)) (read d queue r) (now (memory .entry)) (now (out .exit))) ⌝ }
+        spot (Frame.Receive queue at) →
+        Takes (receiveTurn d (now (memory .entry)) queue at) (now (out .entry)) (called d (Frame.Receive queue at) r) (now (memory .entry)) (now (out .exit))) ⌝ }
 {
     if !spot.running {
         return Called {
@@ -152,7 +138,7 @@ pub fn receive_line<'a>(
             written: frames::answers::write_bad(out),
         };
     }
-    let answer = mailbox::receive::receive_on(
+    let answer = running::receive::receive_on(
         sends,
         period,
         deadline,

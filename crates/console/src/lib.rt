@@ -3,7 +3,8 @@
 mod squares; // squares.rt: which task sends into which queue, from the sender masks
 mod table; // table.rt: frames 01 to 03, until a plan is accepted
 mod run; // run.rt: frames 04 and 05, from then on
-pub mod calls; // calls.rt: the same for a caller that keeps the desk where it lies
+mod calls; // calls.rt: the same from the parts of a desk
+pub mod parts; // parts.rt: the desk in parts, for a caller that keeps it where it lies
 
 use digits::hex::BYTES;
 use digits::hex::Decoded;

@@ -9,20 +9,28 @@ use plan::Plan;
 use plan::refusal::Refusal;
 use planning::Answer;
 use planning::Planned;
-ghost use Rattle.common.specs.Words.{_≡_, List, ℕ, _≤_, length};
+ghost use Rattle.common.specs.Words.{_≡_, List, ℕ, _≤_, leb, length};
 ghost use Rattle.frames.specs.Answers.{longestAnswer, refusalBytes};
 ghost use Rattle.mailbox.specs.Calls.{startAnswer};
+ghost use Rattle.console.specs.Turns.{takesRow};
 ghost use Rattle.console.specs.Desk.{says, taskTurn, queueTurn, planned, withRun, startTurn, goTurn, Takes};
+
+// Whether a table with so many rows of a kind takes one more: nothing runs, and there is room.
+fn takes_row(running: bool, rows: usize, most: usize) -> bool
+    ensures { λ r. ⌜ r ≡ takesRow running (leb most rows) ⌝ }
+{
+    if running {
+        return false;
+    }
+    rows < most
+}
 
 pub fn add_task(mut desk: Desk, out: &mut [u8], period: u64, deadline: u64) -> Stepped
     requires { ⌜ longestAnswer ≤ length (now out) ⌝ }
     ensures { λ r. ⌜ ((m : List ℕ) → Takes (taskTurn desk m period deadline) (now (out .entry)) r m (now (out .exit))) ⌝ }
 {
-    if desk.running {
-        return refuse_line(desk, out);
-    }
     let row = desk.tasks;
-    if Plan::TASKS <= row {
+    if !takes_row(desk.running, row, Plan::TASKS) {
         return refuse_line(desk, out);
     }
     desk.tasks = row + 1;
@@ -35,11 +43,8 @@ pub fn add_queue(mut desk: Desk, out: &mut [u8], receiver: usize, mask: u64) -> 
     requires { ⌜ longestAnswer ≤ length (now out) ⌝ }
     ensures { λ r. ⌜ ((m : List ℕ) → Takes (queueTurn desk m receiver mask) (now (out .entry)) r m (now (out .exit))) ⌝ }
 {
-    if desk.running {
-        return refuse_line(desk, out);
-    }
     let row = desk.queues;
-    if Plan::QUEUES <= row {
+    if !takes_row(desk.running, row, Plan::QUEUES) {
         return refuse_line(desk, out);
     }
     desk.queues = row + 1;

@@ -1,6 +1,5 @@
 // Equation 2: the number of a task's message with its deadline at a tick. It is the sum over the rows of the messages with deadlines up to
 // the tick, but only up to the tick before for a row that goes after the task among equal deadlines: so no row's remainder is needed.
-use crate::count::row_up_to;
 use calendar::Tick;
 use plan::Plan;
 ghost use Rattle.common.specs.Words.{_≡_, cond, _-_, _≤_};
@@ -45,8 +44,10 @@ pub fn number_due<'a>(
     let before = tick_before(at);
     let mut sum: u64 = 0;
     for i in 0..tasks {
-        let until = last_counted(precedes(task, i), before, at);
-        sum += row_up_to(sends[base + i], period[i], deadline[i], until);
+        if sends[base + i] {
+            let until = last_counted(precedes(task, i), before, at);
+            sum += calendar::count(period[i], deadline[i], until);
+        }
     }
     sum
 }

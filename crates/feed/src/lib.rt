@@ -5,14 +5,10 @@
 // A desk is 2 KB, and by value it is copied at each call: the loop keeps it, and lends and stores what frames 04 and 05 need of it.
 use console::Desk;
 use console::Stepped;
-use console::calls::Spot;
 use digits::hex::BYTES;
-use frames::frame::Frame;
-use plan::Plan;
 ghost use Rattle.common.specs.Words.{_≡_, _++_, _-_, _≤_, length, take};
 ghost use Rattle.common.specs.Stores.{part};
 ghost use Rattle.digits.specs.Hex.{mostBytes};
-ghost use Rattle.console.specs.Entries.{putEntry, putPlace};
 ghost use Rattle.console.specs.Desk.{Takes};
 ghost use Rattle.console.specs.Framing.{framedBytes};
 ghost use Rattle.console.specs.Kept.{Kept};
@@ -61,40 +57,6 @@ fn bytes_until(
     console::bytes_in(line, bytes)
 }
 
-// What a send or a receive looks at in the desk.
-fn spot_of(running: bool, tick: u64, entry: u64) -> Spot
-    ensures { λ r. ⌜ r ≡ record { running = running; tick = tick; entry = entry } ⌝ }
-{
-    Spot {
-        running,
-        tick,
-        entry,
-    }
-}
-
-// Stores the entry of a queue and a task, where there is one.
-fn put_entry(sent: &mut [u64; Plan::CELLS], queue: usize, task: usize, entry: u64)
-    ensures { λ _. ⌜ now (sent .exit) ≡ putEntry (now (sent .entry)) queue task entry ⌝ }
-{
-    if Plan::QUEUES <= queue {
-        return;
-    }
-    if Plan::TASKS <= task {
-        return;
-    }
-    sent[queue * Plan::TASKS + task] = entry;
-}
-
-// Stores the reading place of a queue, where there is one.
-fn put_place(reading: &mut [u64; Plan::QUEUES], queue: usize, place: u64)
-    ensures { λ _. ⌜ now (reading .exit) ≡ putPlace (now (reading .entry)) queue place ⌝ }
-{
-    if Plan::QUEUES <= queue {
-        return;
-    }
-    reading[queue] = place;
-}
-
 pub fn feed(
     desk: Desk,
     memory: &mut [u8],
@@ -125,60 +87,37 @@ pub fn feed(
         let frame = frames::frame::frame_of(&bytes[..n]);
         u = 0;
         at = e + 1;
-        match frame {
-            Frame::Bad => w += frames::answers::write_bad(&mut out[w..]),
-            Frame::Send(queue, task, t) => {
-                let entry = mailbox::send::last_sent(&d.state.sent, queue, task);
-                let spot = spot_of(d.running, d.state.tick.0, entry);
-                let payload = frames::frame::payload_in(&bytes[..n]);
-                let s = console::calls::send_line(
-                    &d.plan.sends,
-                    &d.plan.period,
-                    &d.plan.deadline,
-                    &d.plan.receiver,
-                    &d.plan.size,
-                    &d.plan.place,
-                    d.plan.tasks,
-                    d.plan.queues,
-                    spot,
-                    memory,
-                    queue,
-                    task,
-                    t,
-                    payload,
-                    &mut out[w..],
-                );
-                d.state.tick.0 = s.tick;
-                put_entry(&mut d.state.sent, queue, task, s.entry);
-                w += s.written;
-            }
-            Frame::Receive(queue, t) => {
-                let place = mailbox::receive::reading_of(&d.state.reading, queue);
-                let spot = spot_of(d.running, d.state.tick.0, place);
-                let s = console::calls::receive_line(
-                    &d.plan.sends,
-                    &d.plan.period,
-                    &d.plan.deadline,
-                    &d.plan.receiver,
-                    &d.plan.size,
-                    &d.plan.place,
-                    d.plan.tasks,
-                    d.plan.queues,
-                    spot,
-                    memory,
-                    queue,
-                    t,
-                    &mut out[w..],
-                );
-                d.state.tick.0 = s.tick;
-                put_place(&mut d.state.reading, queue, s.entry);
-                w += s.written;
-            }
-            _ => {
-                let s = console::act(d, memory, &bytes[..n], &mut out[w..]);
-                d = s.desk;
-                w += s.written;
-            }
+        if console::parts::from_parts(frame) {
+            let spot = console::parts::spot_for(
+                frame,
+                d.running,
+                d.state.tick.0,
+                &d.state.sent,
+                &d.state.reading,
+            );
+            let left = console::parts::call_line(
+                &d.plan.sends,
+                &d.plan.period,
+                &d.plan.deadline,
+                &d.plan.receiver,
+                &d.plan.size,
+                &d.plan.place,
+                d.plan.tasks,
+                d.plan.queues,
+                spot,
+                memory,
+                frame,
+                frames::frame::payload_in(&bytes[..n]),
+                &mut out[w..],
+            );
+            d.state.tick.0 = left.tick;
+            console::parts::put_entry(&mut d.state.sent, frame, left.entry);
+            console::parts::put_place(&mut d.state.reading, frame, left.entry);
+            w += left.written;
+        } else {
+            let s = console::act(d, memory, &bytes[..n], &mut out[w..]);
+            d = s.desk;
+            w += s.written;
         }
     }
     so_far(d, u, at, w)

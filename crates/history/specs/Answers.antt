@@ -12,7 +12,7 @@ use Rattle.plan.specs.Refusals.{Line}
 use Rattle.history.specs.Types.{Plan, Refusal, Received}
 use Rattle.slots.specs.Slots.{slotAt}
 use Rattle.mailbox.specs.Calls.{receiveLines, found, slotFor, receivingJob}
-use Rattle.mailbox.specs.View.{viewOf}
+use Rattle.running.specs.View.{viewOf}
 use Rattle.plan.specs.Verdicts.{Passed, Stopped, passed-or-stopped}
 use Rattle.history.specs.History.{Call, World, receiveSays, Sends, accepted, Tells, ofMessage, ofGap}
 use Rattle.judge.specs.Accepted.{receive-passed}
@@ -117,7 +117,7 @@ in-time {p} {w} {q = q} {n = n} {b = b} (accepted {i = i} {t = t} e) (sends h) =
       job = t / queueAt p q .period i;
       queue = h .queue;
       sender = h .sender;
-      numbered = sym (sent-is h (accepted e) .1);
+      numbered = sym (sent-is {w = w} h (accepted e) .1);
       ahead = omega (arith, h .in-order, h .running);
     }
 in-time {q = q} {n = n} {b = b} (accepted e) (stays quiet) = absurd (quiet .no-send q n b (accepted e))

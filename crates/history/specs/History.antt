@@ -9,7 +9,7 @@ use Rattle.model.specs.Model.{Queue, first, last, senderOf}
 use Rattle.plan.specs.Limits.{lastTick}
 use Rattle.plan.specs.Plan.{queueAt}
 use Rattle.mailbox.specs.Calls.{fresh, startAnswer, startMemory, sendAnswer, sendState, sendMemory, look, receiveState, receivingJob, slotFor}
-use Rattle.mailbox.specs.View.{viewOf}
+use Rattle.running.specs.View.{viewOf}
 
 -- ## Calls
 

@@ -13,7 +13,7 @@ use Rattle.plan.specs.Limits.{lastTick, queueLimit, payloadBytes}
 use Rattle.plan.specs.Plan.{queueAt}
 use Rattle.plan.specs.Sound.{Sound}
 use Rattle.mailbox.specs.Calls.{runningJob, receivingJob}
-use Rattle.mailbox.specs.View.{viewOf}
+use Rattle.running.specs.View.{viewOf}
 use Rattle.history.specs.History.{Call, send, receive, World, sendSays, History, start, _then_, _⊑_, same, more, Begins, world, receiveSays}
 use Rattle.history.specs.History.{Sends, accepted, SentIn, Tells, ofGap, Accepted, tells, empty, readBy, numbers, upFrom, windowNumbers}
 use Rattle.history.specs.Steps.{CanReceive, next, after-finds, receive-moves, Step, sends, finds, ends, stays, step}
@@ -59,7 +59,7 @@ module _ {p : Plan} {m : List ℕ} (fitting : Fitting p) (begins : Begins p m) w
       go : {c : Call} {w′ : World} → Sends p (world p m H) c q n b → Step p (world p m H) c w′ → ⊥
       go (accepted {i = i} {t = t} e) (sends h) =
           unsent (fitting .sound) (shaped begins H) q i t b h (holds begins fitting q (h .queue) H) d
-          (subst (λ (k : ℕ). SentIn p m H q k d) (sent-is h (accepted e) .1) s)
+          (subst (λ (k : ℕ). SentIn p m H q k d) (sent-is {w = world p m H} h (accepted e) .1) s)
       go (accepted e) (stays quiet) = quiet .no-send q n b (accepted e)
 
   sent-queue : (H : History) (q n : ℕ) (b : List ℕ) → SentIn p m H q n b → q < p .queues

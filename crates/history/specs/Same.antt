@@ -8,7 +8,7 @@ use Rattle.plan.specs.Limits.{lastTick, payloadBytes}
 use Rattle.plan.specs.Plan.{queueAt}
 use Rattle.history.specs.Types.{Plan, Received}
 use Rattle.mailbox.specs.Calls.{slotFor, receivingJob}
-use Rattle.mailbox.specs.View.{viewOf}
+use Rattle.running.specs.View.{viewOf}
 use Rattle.history.specs.History.{Call, send, receive, askNumber, askWayBack, askWindow, askView, World, History, start, _then_, _⊑_, same}
 use Rattle.history.specs.History.{more, Begins, world, receiveSays, SentIn, Reading, readings, reads, readBy, numbers, numberTold, upFrom}
 use Rattle.history.specs.History.{windowNumbers, Fair, asSent, nothingSent, AllFair, Among, ReadToEnd}

@@ -10,6 +10,7 @@ use Rattle.plan.specs.Refusals.{Line}
 use Rattle.plan.specs.Limits.{lastTick, payloadBytes}
 use Rattle.plan.specs.Plan.{queueAt}
 use Rattle.slots.specs.Slots.{numberIn, stored}
+use Rattle.running.specs.Calls as running
 use Rattle.mailbox.specs.Calls.{lastSent, sendLines, receiveLines, sendAnswer, sendState, sendMemory, look, found, receiveState, sentState, readPast}
 use Rattle.mailbox.specs.Calls.{movedTo, steppedOn, runningNumber, receivingJob, nextNumber, slotIn, slotFor}
 use Rattle.plan.specs.Verdicts.{Passed, Stopped, passed-good, stopped-refused, passed-or-stopped}
@@ -55,21 +56,21 @@ module _ (p : Plan) (w : World) where
 
   pub send-stores : (q i t : ℕ) (payload : List ℕ) → CanSend p w q i t payload →
       sendSays p w q i t payload ≡ Sent.Stored (message (numberAt q i t)) (slot (slotIn p q (numberAt q i t)))
-  unfolding sendAnswer
+  unfolding running.sendAnswer
   send-stores q i t payload h = passed-good (sendLines (w .state) p (w .memory) q i t payload) Sent.Refused _ (send-passes h)
 
   pub receive-finds : (q t : ℕ) → CanReceive p w q t → next q t ≤ lastAt q t → receiveSays p w q t ≡ found p (w .memory) q (next q t)
-  unfolding look
+  unfolding running.look
   receive-finds q t h l =
       passed-good (receiveLines (w .state) p (w .memory) q t) Received.Refused _ (receive-passes h) ∙ rw (le-ltb (lastAt q t) (next q t) l)
 
   pub receive-ends : (q t : ℕ) → CanReceive p w q t → lastAt q t < next q t → receiveSays p w q t ≡ Received.Empty
-  unfolding look
+  unfolding running.look
   receive-ends q t h l =
       passed-good (receiveLines (w .state) p (w .memory) q t) Received.Refused _ (receive-passes h) ∙ rw (lt-ltb (lastAt q t) (next q t) l)
 
   pub receive-refused : (q t : ℕ) (r : Refusal) → Stopped (receiveLines (w .state) p (w .memory) q t) r → receiveSays p w q t ≡ Received.Refused r
-  unfolding look
+  unfolding running.look
   receive-refused q t r h = stopped-refused (receiveLines (w .state) p (w .memory) q t) r Received.Refused _ h
 
 -- ## One call
@@ -104,14 +105,14 @@ module _ (p : Plan) (w : World) where
   leaves {s} {m} {s′} {m′} e d = ap (λ (x : State). record { state = x; memory = m }) e ∙ ap (λ (y : List ℕ). record { state = s′; memory = y }) d
 
   pub after-send : (q i t : ℕ) (payload : List ℕ) → CanSend p w q i t payload → after p w (send q i t payload) ≡ sentWorld p w q i t payload
-  unfolding after sendState sendMemory
+  unfolding after sendState running.sendMemory
   after-send q i t payload h =
       let lines : List Line = sendLines (w .state) p (w .memory) q i t payload in
       let passed : Passed lines = send-passes h in
       leaves (passed-good lines (λ r. w .state) _ passed) (passed-good lines (λ r. w .memory) _ passed)
 
   send-step : (q i t : ℕ) (payload : List ℕ) → Step p w (send q i t payload) (after p w (send q i t payload))
-  unfolding after sendState sendMemory sendAnswer
+  unfolding after sendState running.sendMemory running.sendAnswer
   send-step q i t payload = go (passed-or-stopped (sendLines (w .state) p (w .memory) q i t payload))
     where
       lines : List Line

@@ -16,7 +16,7 @@ use Rattle.model.specs.Model.{Sender, receiverPeriod, releaseOf, deadlineOf, nu
 use Rattle.plan.specs.Limits.{lastTick, payloadBytes, slotBytes}
 use Rattle.plan.specs.Plan.{queueAt, sizeAt, slotsOf}
 use Rattle.mailbox.specs.Calls.{runningJob, receivingJob, slotFor}
-use Rattle.mailbox.specs.View.{viewOf}
+use Rattle.running.specs.View.{viewOf}
 use Rattle.history.specs.History.{Call, receive, World, History, start, _then_, _⊑_, Begins, world, after, sendSays, receiveSays, history, goOn}
 use Rattle.history.specs.History.{Sends, SentIn, Tells, readBy, numbers, windowNumbers, AllFair, Among, ReadToEnd, Accepted}
 use Rattle.history.specs.Made.{made-fits, loses-one}

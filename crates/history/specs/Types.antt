@@ -3,7 +3,7 @@ pub use Rattle.calendar.specs.declared.Number.{Number}
 pub use Rattle.calendar.specs.declared.Slot.{Slot}
 pub use Rattle.plan.specs.declared.Plan.{Plan}
 pub use Rattle.plan.specs.declared.refusal.Refusal.{Refusal}
-pub use Rattle.mailbox.specs.declared.Received.{Received}
-pub use Rattle.mailbox.specs.declared.Sent.{Sent}
-pub use Rattle.mailbox.specs.declared.Started.{Started}
+pub use Rattle.running.specs.declared.Received.{Received}
+pub use Rattle.running.specs.declared.Sent.{Sent}
+pub use Rattle.running.specs.declared.Started.{Started}
 pub use Rattle.mailbox.specs.declared.State.{State}

@@ -1,46 +1,26 @@
 -- What accepted calls do for each other: a start leaves every slot unwritten, and a message that was sent is the one that a receive of
 -- its number finds, with its payload in view. Histories with other calls between are the crate history's.
-use Rattle.common.specs.Words.{ℕ, _+_, _*_, _<_, _≤_, _^_, arith, div-mul-le-self, List, _≡_, refl, sym, ap, _∙_, length, lt-ltb, le-ltb, lt-leb}
+use Rattle.common.specs.Words.{ℕ, _+_, _*_, _<_, _≤_, _^_, arith, div-mul-le-self, List, _≡_, refl, ap, _∙_, length, lt-ltb, le-ltb, lt-leb}
 use Rattle.common.specs.Words.{le-leb, eq-eqb}
 use Rattle.model.specs.Model.{receiverPeriod, last, wantedUntil}
 use Rattle.model.specs.Number.{number-below}
 use Rattle.model.specs.Window.{last-iff}
 use Rattle.calendar.specs.Calendar.{message, slot}
-use Rattle.mailbox.specs.Types.{Number, Slot, Plan, Refusal, State, Started, Sent, Sending, Received, Verdict}
 use Rattle.plan.specs.Limits.{lastTick, payloadBytes, slotBytes}
 use Rattle.plan.specs.Plan.{queueAt, slotsOf}
-use Rattle.plan.specs.Refusals.{Line, judged}
 use Rattle.plan.specs.Sound.{sound-iff, usable}
+use Rattle.plan.specs.Verdicts.{verdict, by-clear, Passed, passed-clear}
 use Rattle.judge.specs.Accepted.{SendTaken, send-taken}
 use Rattle.slots.specs.Slots.{slotAt, numberIn, payloadIn, stored}
 use Rattle.slots.specs.SlotLaws.{number-same, payload-same, length-stored, number-cleared}
-use Rattle.mailbox.specs.Calls.{startLines, startAnswer, startMemory, sendLines, runningJob, runningNumber, runningDeadline, slotFor, lastSent}
+use Rattle.running.specs.Calls as running
+use Rattle.running.specs.Bounds.{slot-inside, count-small}
+use Rattle.running.specs.Outcomes.{started-clear, start-is-clear, sent-clear, send-is-clear}
+use Rattle.mailbox.specs.Types.{Number, Slot, Plan, State, Started, Sent, Received, Verdict}
+use Rattle.mailbox.specs.Calls.{startAnswer, startMemory, sendLines, runningJob, runningNumber, runningDeadline, slotFor, lastSent}
 use Rattle.mailbox.specs.Calls.{sendAnswer, sendState, sendMemory, receiveLines, receivingJob, nextNumber, found, look}
-use Rattle.mailbox.specs.View.{viewOf}
-use Rattle.plan.specs.Verdicts.{verdict, outcome, by-verdict, by-clear, Passed, passed-clear}
-use Rattle.mailbox.specs.Bounds.{slot-inside, count-small}
-use Rattle.mailbox.specs.Outcomes.{started-clear, sent-clear}
-use Rattle.mailbox.specs.Outcomes.{accepted}
-
--- an answer that no refusal gives is given where all lines are passed
-no-refusal : {A : Type 0} (lines : List Line) (refused : Refusal → A) (good a : A) → ((r : Refusal) → refused r ≡ a → ⊥) →
-    judged lines refused good ≡ a → verdict lines ≡ Verdict.Clear
-no-refusal {A} lines refused good a apart e = go (verdict lines) (sym (by-verdict lines refused good) ∙ e)
-  where
-    go : (v : Verdict) → outcome v refused good ≡ a → v ≡ Verdict.Clear
-    go Verdict.Clear e = refl
-    go (Verdict.Refused r) e = absurd (apart r e)
-
-pub start-is-clear : (p : Plan) (m : List ℕ) → startAnswer p m ≡ Started.Ready → verdict (startLines p m) ≡ Verdict.Clear
-unfolding startAnswer
-start-is-clear p m e =
-    no-refusal (startLines p m) Started.Refused Started.Ready Started.Ready (λ r f. let z : _≡_ {A = ℕ} 0 1 = cc in omega arith) e
-
-pub send-is-clear : (s : State) (p : Plan) (m : List ℕ) (q i t : ℕ) (payload : List ℕ) (n : Number) (at : Slot) →
-    sendAnswer s p m q i t payload ≡ Sent.Stored n at → verdict (sendLines s p m q i t payload) ≡ Verdict.Clear
-unfolding sendAnswer
-send-is-clear s p m q i t payload n at e =
-    no-refusal (sendLines s p m q i t payload) Sent.Refused _ (Sent.Stored n at) (λ r f. let z : _≡_ {A = ℕ} 0 1 = cc in omega arith) e
+use Rattle.running.specs.View.{viewOf}
+use Rattle.mailbox.specs.Outcomes.{accepted, state-clear}
 
 -- "Start clears the slots of the plan": each reads as never written
 pub start-unwritten : (p : Plan) (m : List ℕ) (k : ℕ) → startAnswer p m ≡ Started.Ready → k < slotsOf p →
@@ -62,7 +42,7 @@ module _ (s : State) (p : Plan) (m : List ℕ) (q i t : ℕ) (payload : List ℕ
   place = slotFor p q (n .0)
 
   clear : verdict (sendLines s p m q i t payload) ≡ Verdict.Clear
-  clear = send-is-clear s p m q i t payload n at sent
+  clear = send-is-clear (s .tick .0) (lastSent s q i) p m q i t payload n at sent
 
   taken : SendTaken (s .tick .0) (lastSent s q i) p m q i t payload
   taken = send-taken (s .tick .0) (lastSent s q i) p m q i t payload refl clear
@@ -70,9 +50,7 @@ module _ (s : State) (p : Plan) (m : List ℕ) (q i t : ℕ) (payload : List ℕ
   -- the number that was answered is the running job's
   pub answered : n ≡ message (runningNumber (queueAt p q) i t)
   answered =
-      let o = sent-clear s p m q i t payload refl clear .0 in
-      let e : sendAnswer s p m q i t payload ≡ _ = ap (λ r. r .answer) o in
-      cc
+      let e : sendAnswer s p m q i t payload ≡ _ = sent-clear (s .tick .0) (lastSent s q i) p m q i t payload refl clear .0 in cc
 
   number-fits : n .0 < 2 ^ 64
   number-fits =
@@ -85,7 +63,7 @@ module _ (s : State) (p : Plan) (m : List ℕ) (q i t : ℕ) (payload : List ℕ
       ))
 
   memory-is : memory ≡ stored payloadBytes m place (n .0) payload
-  memory-is = rw answered (sent-clear s p m q i t payload refl clear .1)
+  memory-is = rw answered (sent-clear (s .tick .0) (lastSent s q i) p m q i t payload refl clear .1)
 
   -- what the slot then holds
   pub sent-number : numberIn payloadBytes memory place ≡ n .0
@@ -113,7 +91,7 @@ module _ (s : State) (p : Plan) (m : List ℕ) (q i t : ℕ) (payload : List ℕ
     in-order : state .tick .0 ≤ u
     in-order =
         let v = usable (taken .ground .sound) q (taken .queue) .valid in
-        let o = ap (λ (r : Sending). r .state .tick .0) (sent-clear s p m q i t payload refl clear .0) in
+        let o = ap (λ (x : State). x .tick .0) (state-clear s p m q i t payload clear) in
         let d = last-iff (queueAt p q) v (receivingJob (queueAt p q) u) i (runningJob (queueAt p q) i t) (taken .sender) .0 (rw answered at window) in
         omega (arith, o, d, taken .running, div-mul-le-self u (receiverPeriod (queueAt p q)))
 
@@ -137,7 +115,7 @@ module _ (s : State) (p : Plan) (m : List ℕ) (q i t : ℕ) (payload : List ℕ
 
     -- "a message answer holds the number and its slot counted from the start of memory"
     pub sent-received : look state p memory q u ≡ Received.Message n (slot place)
-    unfolding look found
+    unfolding running.look found
     sent-received =
         by-clear (receiveLines state p memory q u) Received.Refused (accepted state p memory q u) (passed-clear (receiveLines state p memory q u) passed)
         ∙ rw (next, le-ltb (last (queueAt p q) (receivingJob (queueAt p q) u)) (n .0) window, eq-eqb _ _ sent-number)

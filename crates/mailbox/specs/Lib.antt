@@ -1,11 +1,7 @@
 pub mod Types
 pub mod Calls
-pub mod Known
-pub mod View
 pub mod Outcomes
 pub mod Unique
 pub mod Refused
 pub mod Says
-pub mod Bounds
-pub mod Stepping
 pub mod Delivered

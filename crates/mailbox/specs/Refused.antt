@@ -6,6 +6,7 @@ use Rattle.plan.specs.Refusals.{Line, judged}
 use Rattle.mailbox.specs.Types.{Plan, Refusal, Verdict, State, Started, Sent, Received}
 use Rattle.model.specs.Model.{last, senderOf}
 use Rattle.calendar.specs.Calendar.{message, slot}
+use Rattle.running.specs.Calls as running
 use Rattle.mailbox.specs.Calls.{startLines, startAnswer, startMemory, sendLines, sendAnswer, sendState, sendMemory, receiveLines}
 use Rattle.mailbox.specs.Calls.{slotFor, receivingJob, nextNumber, look, found, receiveState}
 use Rattle.slots.specs.Slots.{numberIn}
@@ -31,7 +32,7 @@ start-refused p m r =
 
 pub send-refused : (s : State) (p : Plan) (m : List ℕ) (q i t : ℕ) (payload : List ℕ) (r : Refusal) →
     (sendAnswer s p m q i t payload ≡ Sent.Refused r) ↔ Stopped (sendLines s p m q i t payload) r
-unfolding sendAnswer
+unfolding running.sendAnswer
 send-refused s p m q i t payload r =
     refusal-iff (sendLines s p m q i t payload) Sent.Refused _ r (λ x e. cc) (λ e. let z : _≡_ {A = ℕ} 0 1 = cc in omega arith)
 
@@ -49,7 +50,7 @@ read-no-refusal false a r apart e = apart e
 
 pub receive-refused : (s : State) (p : Plan) (m : List ℕ) (q t : ℕ) (r : Refusal) →
     (look s p m q t ≡ Received.Refused r) ↔ Stopped (receiveLines s p m q t) r
-unfolding look
+unfolding running.look
 receive-refused s p m q t r =
     refusal-iff (receiveLines s p m q t) Received.Refused (accepted s p m q t) r (λ x e. cc)
     (read-no-refusal (ltb (last (queueAt p q) (receivingJob (queueAt p q) t)) (nextNumber s p q t)) _ r
@@ -66,7 +67,7 @@ start-keeps p m r e = kept (startLines p m) m _ r (start-refused p m r .0 e)
 
 pub send-keeps : (s : State) (p : Plan) (m : List ℕ) (q i t : ℕ) (payload : List ℕ) (r : Refusal) →
     sendAnswer s p m q i t payload ≡ Sent.Refused r → (sendState s p m q i t payload ≡ s) × (sendMemory s p m q i t payload ≡ m)
-unfolding sendState sendMemory
+unfolding sendState running.sendMemory
 send-keeps s p m q i t payload r e =
     let f = send-refused s p m q i t payload r .0 e in
     let lines = sendLines s p m q i t payload in

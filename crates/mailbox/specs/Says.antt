@@ -7,6 +7,7 @@ use Rattle.plan.specs.Says.{Said, refusedSays, no}
 use Rattle.plan.specs.Rules.{soundPlan, connected}
 use Rattle.mailbox.specs.Types.{Plan, State, Started, Sent, Received}
 use Rattle.judge.specs.Lines.{sentAlready}
+use Rattle.running.specs.Calls as running
 use Rattle.mailbox.specs.Calls.{startLines, startAnswer, sendLines, runningJob, runningDeadline, runningNumber, slotIn}
 use Rattle.mailbox.specs.Calls.{lastSent, sendAnswer, receiveLines, receivingJob, look}
 use Rattle.plan.specs.Verdicts.{judged-map}
@@ -49,7 +50,7 @@ pub send-says : (s : State) (p : Plan) (m : List ℕ) (q i t : ℕ) (payload : L
     (cond (leb (runningDeadline (queueAt p q) i t) t) (no 12)
     (cond (sentAlready (lastSent s q i) (runningJob (queueAt p q) i t)) (no 13)
     (0x84, n ∷ slotIn p q n ∷ []))))))))
-unfolding sendAnswer
+unfolding running.sendAnswer
 send-says s p m q i t payload = judged-map sentSays (sendLines s p m q i t payload) Sent.Refused _
 
 pub receive-says : (s : State) (p : Plan) (m : List ℕ) (q t : ℕ) →
@@ -61,5 +62,5 @@ pub receive-says : (s : State) (p : Plan) (m : List ℕ) (q t : ℕ) →
     (cond (ltb t (s .tick .0)) (no 10)
     (cond (leb (wantedUntil (queueAt p q) (receivingJob (queueAt p q) t)) t) (no 12)
     (receivedSays (accepted s p m q t)))))))
-unfolding look
+unfolding running.look
 receive-says s p m q t = judged-map receivedSays (receiveLines s p m q t) Received.Refused (accepted s p m q t)

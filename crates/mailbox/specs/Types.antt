@@ -1,15 +1,13 @@
 -- The types that the pages of this crate speak of, its own and those of the crates below, under their own names.
-pub use Rattle.calendar.specs.declared.Job.{Job}
 pub use Rattle.calendar.specs.declared.Number.{Number}
 pub use Rattle.calendar.specs.declared.Slot.{Slot}
 pub use Rattle.plan.specs.declared.Plan.{Plan}
 pub use Rattle.plan.specs.declared.refusal.Refusal.{Refusal}
 pub use Rattle.plan.specs.declared.refusal.Verdict.{Verdict}
-pub use Rattle.window.specs.declared.Window.{Window}
-pub use Rattle.mailbox.specs.declared.Received.{Received}
+pub use Rattle.running.specs.declared.Received.{Received}
+pub use Rattle.running.specs.declared.Sent.{Sent}
+pub use Rattle.running.specs.declared.Started.{Started}
 pub use Rattle.mailbox.specs.declared.Receiving.{Receiving}
 pub use Rattle.mailbox.specs.declared.Sending.{Sending}
-pub use Rattle.mailbox.specs.declared.Sent.{Sent}
-pub use Rattle.mailbox.specs.declared.Started.{Started}
 pub use Rattle.mailbox.specs.declared.Starting.{Starting}
 pub use Rattle.mailbox.specs.declared.State.{State}

@@ -4,7 +4,7 @@ use Rattle.common.specs.Words.{List, _≡_, sym, _∙_, ℕ}
 use denote.Ref.{RefT, now}
 use Rattle.mailbox.specs.Types.{Plan, State, Starting, Sending, Receiving, Received}
 use Rattle.mailbox.specs.Calls.{startMemory, sendMemory}
-use Rattle.mailbox.specs.View.{viewOf, placeOf}
+use Rattle.running.specs.View.{viewOf, placeOf}
 use Rattle.mailbox.specs.Outcomes.{starting, sending, receiving}
 
 one : {A : Type 0} {x y z : A} → x ≡ z → y ≡ z → x ≡ y

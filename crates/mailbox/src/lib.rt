@@ -1,15 +1,15 @@
 // The mailbox: the running calls start, send and receive, over a plan, a state and slots in lent memory. Each call tests what it is handed
-// and answers; a refused call gives back state and memory as they were. What a look at an answer's bytes shows is defined in
-// specs/View.antt, and shown by the crate `view`.
+// and answers; a refused call gives back state and memory as they were. What a call answers is reckoned in the crate `running`, from the
+// numbers that it looks at in the state.
 pub mod start; // start.rt: the fresh state, and start
 pub mod send; // send.rt: send
 pub mod receive; // receive.rt: receive, a look and a step on
 
-use calendar::Number;
-use calendar::Slot;
 use calendar::Tick;
 use plan::Plan;
-use plan::refusal::Refusal;
+pub use running::Received;
+pub use running::Sent;
+pub use running::Started;
 
 // What the calls remember from one to the next. It is handed in and comes back by value.
 pub struct State {
@@ -19,25 +19,6 @@ pub struct State {
     pub sent: [u64; Plan::CELLS],
     // of each queue: the next number to read, 0 where none has been read
     pub reading: [u64; Plan::QUEUES],
-}
-
-pub enum Started {
-    Ready,
-    Refused(Refusal),
-}
-
-// The slot is counted within its queue.
-pub enum Sent {
-    Stored(Number, Slot),
-    Refused(Refusal),
-}
-
-// A message's slot is counted from the start of memory; a gap names the row of the sender that sent nothing.
-pub enum Received {
-    Message(Number, Slot),
-    Gap(Number, usize),
-    Empty,
-    Refused(Refusal),
 }
 
 pub struct Starting {

@@ -1,36 +1,11 @@
 // The start of a run: a fresh state over cleared slots.
-use crate::Started;
 use crate::Starting;
 use crate::State;
 use calendar::Tick;
 use plan::Plan;
-use plan::refusal::Refusal;
-use plan::refusal::Rule;
-use plan::refusal::Verdict;
 ghost use Rattle.common.specs.Words.{_≡_};
-ghost use Rattle.mailbox.specs.Calls.{fresh, startAnswer, startMemory};
+ghost use Rattle.mailbox.specs.Calls.{fresh, startMemory};
 ghost use Rattle.mailbox.specs.Outcomes.{starting};
-
-// What a start answers; where it accepts the plan it clears its slots.
-fn started(plan: Plan, memory: &mut [u8]) -> Started
-    ensures { λ r. ⌜ (r ≡ startAnswer plan (now (memory .entry))) × (now (memory .exit) ≡ startMemory plan (now (memory .entry))) ⌝ }
-{
-    if !soundness::sound(plan) {
-        return Started::Refused(Refusal {
-            rule: Rule::UnsoundPlan,
-            row: 0,
-        });
-    }
-    let verdict = judge::judge_start(plan, memory);
-    if let Verdict::Refused(refusal) = verdict {
-        return Started::Refused(refusal);
-    }
-    slots::clear(
-        memory,
-        judge::slots_of(plan.queues, &plan.size, &plan.place),
-    );
-    Started::Ready
-}
 
 impl State {
     // Nothing sent, nothing read, tick 0.
@@ -49,7 +24,7 @@ impl State {
         ensures { λ r. ⌜ (r ≡ starting plan (now (memory .entry))) × (now (memory .exit) ≡ startMemory plan (now (memory .entry))) ⌝ }
     {
         Starting {
-            answer: started(plan, memory),
+            answer: running::start::started(plan, memory),
             state: State::fresh(),
         }
     }

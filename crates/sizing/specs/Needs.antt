@@ -1,6 +1,6 @@
 -- `horizon`, `need` and `rowSlots` of the model, over columns that have no receiver: two numbers stand in its place, its period, here
 -- `chart`, and how long its messages are wanted. With a plan's own columns and numbers they are those of its queue.
-use Rattle.common.specs.Words.{ℕ, _+_, _-_, _/_, _<_, _≤_, div-mul-le-self, lt-of-not-le, arith, _≡_, refl}
+use Rattle.common.specs.Words.{ℕ, _+_, _-_, _/_, _<_, _≤_, div-mul-le-self, div-eq-of-lt-le, lt-div-mul-add, lt-of-not-le, arith, _≡_, refl, ap}
 use Rattle.common.specs.Totals.{most}
 use Rattle.model.specs.Model.{Queue, Valid, Sender, released, releaseOf, deadlineOf, dueAt, precedes, upTo, followers, number}
 use Rattle.model.specs.Model.{receiverPeriod, wantedFor, horizon, outdated, need, rowSlots}
@@ -12,8 +12,11 @@ use Rattle.counting.specs.Columns.{numberDue, planColumns}
 abbrev pub horizonFor : ℕ → ℕ → ℕ → ℕ
 horizonFor chart wanted r = released chart ((r - wanted) / chart)
 
+abbrev pub numberFor : Queue → ℕ → ℕ → ℕ
+numberFor q i k = numberDue q (deadlineOf q i k) i
+
 abbrev pub needFor : Queue → ℕ → ℕ → ℕ → ℕ → ℕ
-needFor q chart wanted i k = numberDue q (deadlineOf q i k) i - upTo q (horizonFor chart wanted (releaseOf q i k))
+needFor q chart wanted i k = numberFor q i k - upTo q (horizonFor chart wanted (releaseOf q i k))
 
 abbrev pub rowSlotsFor : Queue → ℕ → ℕ → ℕ → ℕ → ℕ
 rowSlotsFor q chart wanted H i = most (λ k. needFor q chart wanted i (H / q .period i + k)) (H / q .period i)
@@ -21,9 +24,22 @@ rowSlotsFor q chart wanted H i = most (λ k. needFor q chart wanted i (H / q .pe
 pub horizon-back : (chart wanted r : ℕ) → horizonFor chart wanted r ≤ r - wanted
 horizon-back chart wanted r = div-mul-le-self (r - wanted) chart
 
+-- the horizon stays where it is until a chart period has passed
+pub horizon-stays : (chart wanted from r : ℕ) → 1 ≤ chart → from ≤ r → r < horizonFor chart wanted from + wanted + chart →
+    horizonFor chart wanted r ≡ horizonFor chart wanted from
+horizon-stays chart wanted from r h a b =
+    ap (released chart) (div-eq-of-lt-le chart (omega (arith, horizon-back chart wanted from)) (omega (arith, h, b)))
+
+pub horizon-ahead : (chart wanted r : ℕ) → 1 ≤ chart → r < horizonFor chart wanted r + wanted + chart
+horizon-ahead chart wanted r h = omega (arith, lt-div-mul-add {a = r - wanted} h)
+
+-- so many messages are outdated at each tick from `from` on and before `until`
+abbrev pub OutdatedFrom : Queue → ℕ → ℕ → ℕ → ℕ → ℕ → Type 0
+OutdatedFrom q chart wanted from until count = (r : ℕ) → from ≤ r → r < until → upTo q (horizonFor chart wanted r) ≡ count
+
 -- a message is not among those that are outdated when its job is released
 pub outdated-less : (q : Queue) → Valid q → (chart wanted i k : ℕ) → Sender q i →
-    upTo q (horizonFor chart wanted (releaseOf q i k)) < numberDue q (deadlineOf q i k) i
+    upTo q (horizonFor chart wanted (releaseOf q i k)) < numberFor q i k
 unfolding number
 outdated-less q v chart wanted i k s =
     lt-of-not-le (λ h. omega (arith, number-iff q v i k s _ .0 h, horizon-back chart wanted (releaseOf q i k), v .deadline-pos i (s .row)))

@@ -4,14 +4,14 @@
 use calendar::Job;
 use calendar::Tick;
 use plan::Plan;
-ghost use Rattle.common.specs.Words.{_≡_, _<_, _≤_, max, getD};
+ghost use Rattle.common.specs.Words.{_≡_, _-_, _<_, _≤_, max, getD};
 ghost use Rattle.common.specs.Totals.{only};
 ghost use Rattle.model.specs.Model.{Sender, deadlineOf, slotsOver};
 ghost use Rattle.calendar.specs.Calendar.{tick};
 ghost use Rattle.plan.specs.Limits.{lastTick, longestPeriod, longestHyperperiod};
 ghost use Rattle.plan.specs.Plan.{queueAt, Usable};
 ghost use Rattle.counting.specs.Columns.{columnsAt, Lent};
-ghost use Rattle.sizing.specs.Needs.{horizonFor, needFor, rowSlotsFor};
+ghost use Rattle.sizing.specs.Needs.{horizonFor, numberFor, rowSlotsFor, OutdatedFrom};
 
 // The last deadline whose messages are outdated at a tick.
 fn horizon_at(chart: u64, wanted: u64, at: Tick) -> Tick
@@ -24,8 +24,14 @@ fn horizon_at(chart: u64, wanted: u64, at: Tick) -> Tick
     calendar::release_of(chart, Job((at.0 - wanted) / chart))
 }
 
-// The slots that a job's message asks for.
-fn need_of<'a>(
+// So many messages are outdated at a release, and at each later one before `until`: the horizon moves once in a chart period.
+struct Outdated {
+    count: u64,
+    until: u64,
+}
+
+// What is outdated at a release, from what was known at one before it.
+fn outdated_at<'a>(
     sends: &'a [bool; Plan::CELLS],
     period: &'a [u64; Plan::TASKS],
     deadline: &'a [u64; Plan::TASKS],
@@ -33,19 +39,45 @@ fn need_of<'a>(
     queue: usize,
     chart: u64,
     wanted: u64,
+    release: Tick,
+    known: Outdated,
+) -> Outdated
+    requires { ⌜ Lent (now sends) (now period) (now deadline) tasks queue
+        × (1 ≤ chart) × (chart ≤ longestPeriod) × (wanted ≤ longestPeriod) × (release .0 ≤ lastTick)
+        × OutdatedFrom (columnsAt (now sends) (now period) (now deadline) tasks queue) chart wanted (release .0) (known .until) (known .count) ⌝ }
+    ensures { λ r. ⌜ (release .0 < r .until)
+        × OutdatedFrom (columnsAt (now (sends .entry)) (now (period .entry)) (now (deadline .entry)) tasks queue) chart wanted (release .0) (r .until) (r .count) ⌝ }
+{
+    if release.0 < known.until {
+        return known;
+    }
+    let horizon = horizon_at(chart, wanted, release);
+    let count = counting::count::up_to(sends, period, deadline, tasks, queue, horizon);
+    Outdated {
+        count,
+        until: horizon.0 + wanted + chart,
+    }
+}
+
+// The slots that a job's message asks for, where so many messages are outdated at the job's release.
+fn need_of<'a>(
+    sends: &'a [bool; Plan::CELLS],
+    period: &'a [u64; Plan::TASKS],
+    deadline: &'a [u64; Plan::TASKS],
+    tasks: usize,
+    queue: usize,
     task: usize,
     job: Job,
+    outdated: u64,
 ) -> u64
-    requires { ⌜ Lent (now sends) (now period) (now deadline) tasks queue × (1 ≤ chart)
+    requires { ⌜ Lent (now sends) (now period) (now deadline) tasks queue
         × Sender (columnsAt (now sends) (now period) (now deadline) tasks queue) task
-        × (deadlineOf (columnsAt (now sends) (now period) (now deadline) tasks queue) task (job .0) ≤ lastTick) ⌝ }
-    ensures { λ r. ⌜ r ≡ needFor (columnsAt (now (sends .entry)) (now (period .entry)) (now (deadline .entry)) tasks queue) chart wanted task (job .0) ⌝ }
+        × (deadlineOf (columnsAt (now sends) (now period) (now deadline) tasks queue) task (job .0) ≤ lastTick)
+        × (outdated ≤ numberFor (columnsAt (now sends) (now period) (now deadline) tasks queue) task (job .0)) ⌝ }
+    ensures { λ r. ⌜ r ≡ numberFor (columnsAt (now (sends .entry)) (now (period .entry)) (now (deadline .entry)) tasks queue) task (job .0) - outdated ⌝ }
 {
     let due = calendar::deadline_of(period[task], deadline[task], job);
-    let number = counting::number::number_due(sends, period, deadline, tasks, queue, due, task);
-    let release = calendar::release_of(period[task], job);
-    let horizon = horizon_at(chart, wanted, release);
-    number - counting::count::up_to(sends, period, deadline, tasks, queue, horizon)
+    counting::number::number_due(sends, period, deadline, tasks, queue, due, task) - outdated
 }
 
 fn larger(a: u64, b: u64) -> u64
@@ -66,16 +98,18 @@ fn row_slots<'a>(
     task: usize,
     ticks: u64,
 ) -> u64
-    requires { ⌜ Lent (now sends) (now period) (now deadline) tasks queue × (1 ≤ chart)
+    requires { ⌜ Lent (now sends) (now period) (now deadline) tasks queue × (1 ≤ chart) × (chart ≤ longestPeriod) × (wanted ≤ longestPeriod)
         × Sender (columnsAt (now sends) (now period) (now deadline) tasks queue) task
         × (getD (now period) task 0 ≤ longestPeriod) × (ticks ≤ longestHyperperiod) ⌝ }
     ensures { λ r. ⌜ r ≡ rowSlotsFor (columnsAt (now (sends .entry)) (now (period .entry)) (now (deadline .entry)) tasks queue) chart wanted ticks task ⌝ }
 {
     let jobs = ticks / period[task];
     let mut most: u64 = 0;
+    let mut outdated = Outdated { count: 0, until: 0 };
     for k in 0..jobs {
         let job = Job(jobs + k);
-        let need = need_of(
+        let release = calendar::release_of(period[task], job);
+        outdated = outdated_at(
             sends,
             period,
             deadline,
@@ -83,8 +117,18 @@ fn row_slots<'a>(
             queue,
             chart,
             wanted,
+            release,
+            outdated,
+        );
+        let need = need_of(
+            sends,
+            period,
+            deadline,
+            tasks,
+            queue,
             task,
             job,
+            outdated.count,
         );
         most = larger(most, need);
     }
@@ -103,7 +147,7 @@ fn share<'a>(
     task: usize,
     ticks: u64,
 ) -> u64
-    requires { ⌜ Lent (now sends) (now period) (now deadline) tasks queue × (1 ≤ chart) × (task < tasks)
+    requires { ⌜ Lent (now sends) (now period) (now deadline) tasks queue × (1 ≤ chart) × (chart ≤ longestPeriod) × (wanted ≤ longestPeriod) × (task < tasks)
         × (getD (now period) task 0 ≤ longestPeriod) × (ticks ≤ longestHyperperiod) ⌝ }
     ensures { λ r. ⌜ r ≡ only ((columnsAt (now (sends .entry)) (now (period .entry)) (now (deadline .entry)) tasks queue) .sends task)
         (rowSlotsFor (columnsAt (now (sends .entry)) (now (period .entry)) (now (deadline .entry)) tasks queue) chart wanted ticks task) ⌝ }

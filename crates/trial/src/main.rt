@@ -6,73 +6,35 @@ mod table; // table.rt: the lines on a table and its plan
 mod text; // text.rt: words and numbers
 
 use libc::STDIN_FILENO;
-use mailbox::Received;
-use mailbox::Receiving;
-use mailbox::State;
 use plan::Plan;
+use run::fresh_run;
 use run::run_after;
-use table::look_up;
 use table::plan_after;
 use table::table_after;
-use text::Line;
+use text::letter;
+use text::number;
 
 // The longest text that is read; what is longer is cut.
 const TEXT: usize = 131_072;
 
-// What a line finds and leaves. The plan is that of the table as it stood at the last line `plan`, and altered since.
-struct Desk {
-    table: Plan,
-    plan: Plan,
-    run: Receiving,
-    // how much of the buffer is lent as memory
-    lent: usize,
-}
-
 // How much of the buffer is lent after a line: `memory LENGTH BYTE` asks for so many bytes, all of them BYTE.
-fn lent_after(before: usize, line: Line, buffer: &mut [u8]) -> usize {
-    if line.word != b'm' {
+fn lent_after(before: usize, line: &[u8], buffer: &mut [u8]) -> usize {
+    if letter(line, 0) != b'm' {
         return before;
     }
-    let byte = (line.value[1] % 256) as u8;
+    let byte = (number(line, 1) % 256) as u8;
     for k in 0..buffer.len() {
         buffer[k] = byte;
     }
-    line.value[0] as usize
-}
-
-// The desk after a line: each part knows its own lines, and any other line leaves it as it was.
-fn desk_after(desk: Desk, text: &[u8], buffer: &mut [u8]) -> Desk {
-    let line = Line::of(text);
-    let old_table = desk.table;
-    let old_plan = desk.plan;
-    let old_run = desk.run;
-    let table = table_after(old_table, line);
-    let plan = plan_after(old_plan, table, line);
-    look_up(plan, line);
-    let lent = lent_after(desk.lent, line, buffer);
-    if buffer.len() < lent {
-        return desk;
-    }
-    let run = run_after(old_run, plan, line, &mut buffer[..lent]);
-    Desk {
-        table,
-        plan,
-        run,
-        lent,
-    }
+    number(line, 0) as usize
 }
 
 // Plays each line of the text that has its end.
 fn play(text: &[u8], buffer: &mut [u8]) {
-    let mut desk = Desk {
-        table: Plan::zeros(),
-        plan: Plan::zeros(),
-        run: Receiving {
-            answer: Received::Empty,
-            state: State::fresh(),
-        },
-        lent: 0,
-    };
+    let mut table = Plan::zeros();
+    let mut plan = Plan::zeros();
+    let mut run = fresh_run();
+    let mut lent: usize = 0;
     let mut at: usize = 0;
     let mut end: usize = 0;
     while end < text.len() {
@@ -83,7 +45,14 @@ fn play(text: &[u8], buffer: &mut [u8]) {
         let line = &text[at..end];
         end += 1;
         at = end;
-        desk = desk_after(desk, line, buffer);
+        table = table_after(table, line);
+        plan = plan_after(plan, table, line);
+        let asked = lent_after(lent, line, buffer);
+        if buffer.len() < asked {
+            continue;
+        }
+        lent = asked;
+        run = run_after(run, plan, line, &mut buffer[..lent]);
     }
 }
 

@@ -1,6 +1,8 @@
 // The lines on a state and the lent memory: the running calls, the view, and digests of what the calls have made of both. A run is a
 // state and the answer of the last receive, which the views after it are of.
-use crate::text::Line;
+use crate::text::FIELD;
+use crate::text::letter;
+use crate::text::number;
 use crate::text::say;
 use crate::text::say_refused;
 use calendar::Number;
@@ -19,20 +21,20 @@ const MOST_BYTES: usize = 64;
 
 const PRIME: u64 = 1_000_003;
 
-fn start(kept: Received, plan: Plan, memory: &mut [u8]) -> Receiving {
-    let r = State::start(plan, memory);
-    let answer = r.answer;
-    let state = r.state;
+fn say_started(answer: Started) {
     match answer {
         Started::Ready => {
             io::write_all(STDOUT_FILENO, b"ready\n");
         }
         Started::Refused(r) => say_refused(r),
     }
-    Receiving {
-        answer: kept,
-        state,
-    }
+}
+
+fn start(plan: Plan, memory: &mut [u8]) -> State {
+    let starting = State::start(plan, memory);
+    let answer = starting.answer;
+    say_started(answer);
+    starting.state
 }
 
 // Bytes that count up from the first one.
@@ -52,28 +54,16 @@ fn say_sent(answer: Sent) {
 }
 
 // The send of a line `send Q I T LEN FIRST`.
-fn send(run: Receiving, plan: Plan, line: Line, memory: &mut [u8]) -> Receiving {
-    let kept = run.answer;
-    let before = run.state;
-    let queue = line.value[0] as usize;
-    let task = line.value[1] as usize;
-    let length = line.value[3] as usize % (MOST_BYTES + 1);
-    let bytes = counted_up(line.value[4]);
-    let r = before.send(
-        plan,
-        memory,
-        queue,
-        task,
-        Tick(line.value[2]),
-        &bytes[..length],
-    );
-    let answer = r.answer;
-    let state = r.state;
+fn send(before: State, plan: Plan, line: &[u8], memory: &mut [u8]) -> State {
+    let queue = number(line, 0) as usize;
+    let task = number(line, 1) as usize;
+    let at = Tick(number(line, 2));
+    let length = number(line, 3) as usize % (MOST_BYTES + 1);
+    let bytes = counted_up(number(line, 4));
+    let sending = before.send(plan, memory, queue, task, at, &bytes[..length]);
+    let answer = sending.answer;
     say_sent(answer);
-    Receiving {
-        answer: kept,
-        state,
-    }
+    sending.state
 }
 
 fn say_received(answer: Received) {
@@ -88,19 +78,26 @@ fn say_received(answer: Received) {
 }
 
 // The receive of a line `receive Q T`.
-fn receive(before: State, plan: Plan, line: Line, memory: &[u8]) -> Receiving {
-    let queue = line.value[0] as usize;
-    let r = before.receive(plan, memory, queue, Tick(line.value[1]));
-    let answer = r.answer;
+fn receive(before: State, plan: Plan, line: &[u8], memory: &[u8]) -> Receiving {
+    let queue = number(line, 0) as usize;
+    let at = Tick(number(line, 1));
+    let receiving = before.receive(plan, memory, queue, at);
+    let answer = receiving.answer;
     say_received(answer);
-    r
+    receiving
 }
 
-// The view of a line `view LEN BYTE`, in hexadecimal.
-fn say_view(kept: Received, line: Line, memory: &[u8]) {
-    let filler = [(line.value[1] % 256) as u8; MOST_BYTES];
-    let asked = line.value[0] as usize % (MOST_BYTES + 1);
-    let bytes = view::view(kept, memory, &filler[..asked]);
+// A line `keep NUMBER SLOT` puts a message in the place of the last answer.
+fn keep(state: State, line: &[u8]) -> Receiving {
+    let message = Number(number(line, 0));
+    let slot = Slot(number(line, 1) as usize);
+    Receiving {
+        answer: Received::Message(message, slot),
+        state,
+    }
+}
+
+fn say_bytes(bytes: &[u8]) {
     if bytes.len() == 0 {
         io::write_all(STDOUT_FILENO, b"none\n");
         return;
@@ -110,6 +107,14 @@ fn say_view(kept: Received, line: Line, memory: &[u8]) {
         io::print_hex(STDOUT_FILENO, bytes[k] as u64, 2);
     }
     io::write_all(STDOUT_FILENO, b"\n");
+}
+
+// The view of a line `view LEN BYTE`, in hexadecimal.
+fn say_view(run: Receiving, line: &[u8], memory: &[u8]) {
+    let kept = run.answer;
+    let filler = [(number(line, 1) % 256) as u8; MOST_BYTES];
+    let asked = number(line, 0) as usize % (MOST_BYTES + 1);
+    say_bytes(view::view(kept, memory, &filler[..asked]));
 }
 
 // A digest is the sum of the values, each times its place counted from 1, modulo a prime: a change anywhere shows. The value has
@@ -149,12 +154,13 @@ fn say_digest(state: State, memory: &[u8]) {
 }
 
 // The state after a line `force FIELD VALUE` or `force FIELD INDEX VALUE`. An index counts modulo the field's length.
-fn forced(before: State, line: Line) -> State {
-    let i = line.value[0] as usize;
-    let value = line.value[1];
-    let tick = Tick(line.value[0]);
+fn forced(before: State, line: &[u8]) -> State {
+    let first = number(line, 0);
+    let i = first as usize;
+    let value = number(line, 1);
+    let tick = Tick(first);
     let mut state = before;
-    let field = line.field;
+    let field = letter(line, FIELD);
     match field {
         b't' => state.tick = tick,
         b's' => state.sent[i % Plan::CELLS] = value,
@@ -164,36 +170,34 @@ fn forced(before: State, line: Line) -> State {
     state
 }
 
-// The run after a line that changes it, and calls nothing: `keep NUMBER SLOT` puts a message in the place of the last answer.
-fn changed(run: Receiving, line: Line) -> Receiving {
-    let kept = run.answer;
-    let state = run.state;
-    let word = line.word;
-    match word {
-        b'k' => Receiving {
-            answer: Received::Message(Number(line.value[0]), Slot(line.value[1] as usize)),
-            state,
-        },
-        b'f' => Receiving {
-            answer: kept,
-            state: forced(state, line),
-        },
-        _ => run,
+pub fn fresh_run() -> Receiving {
+    Receiving {
+        answer: Received::Empty,
+        state: State::fresh(),
     }
 }
 
-// The run after a line.
-pub fn run_after(run: Receiving, plan: Plan, line: Line, memory: &mut [u8]) -> Receiving {
-    let kept = run.answer;
-    let state = run.state;
-    let word = line.word;
+// The run after a line that leaves the memory as it is.
+fn run_over(mut run: Receiving, plan: Plan, line: &[u8], memory: &[u8]) -> Receiving {
+    let word = letter(line, 0);
     match word {
-        b'i' => return start(kept, plan, memory),
-        b's' => return send(run, plan, line, memory),
-        b'r' => return receive(state, plan, line, memory),
-        b'v' => say_view(kept, line, memory),
-        b'd' => say_digest(state, memory),
+        b'r' => return receive(run.state, plan, line, memory),
+        b'k' => return keep(run.state, line),
+        b'f' => run.state = forced(run.state, line),
+        b'v' => say_view(run, line, memory),
+        b'd' => say_digest(run.state, memory),
         _ => {}
     }
-    changed(run, line)
+    run
+}
+
+// The run after a line.
+pub fn run_after(mut run: Receiving, plan: Plan, line: &[u8], memory: &mut [u8]) -> Receiving {
+    let word = letter(line, 0);
+    match word {
+        b'i' => run.state = start(plan, memory),
+        b's' => run.state = send(run.state, plan, line, memory),
+        _ => return run_over(run, plan, line, memory),
+    }
+    run
 }

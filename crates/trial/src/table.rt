@@ -1,7 +1,10 @@
 // The lines on a table and its plan, and the lookups. The table is kept as a plan without sizes and places; a row that has no place in
 // it is counted all the same, so that a table of 17 tasks or 9 queues comes to planning as one.
-use crate::text::Line;
+use crate::text::FIELD;
 use crate::text::MOST;
+use crate::text::count;
+use crate::text::letter;
+use crate::text::number;
 use crate::text::say;
 use crate::text::say_refused;
 use calendar::Job;
@@ -14,18 +17,18 @@ use plan::Plan;
 use planning::Answer;
 
 // The tasks of a line `tasks P/D P/D ..`, and no queue yet.
-fn tasks_of(line: Line) -> Plan {
+fn tasks_of(line: &[u8]) -> Plan {
     let mut table = Plan::zeros();
-    table.tasks = line.count / 2;
+    table.tasks = count(line) / 2;
     for i in 0..Plan::TASKS {
-        table.period[i] = line.value[2 * i];
-        table.deadline[i] = line.value[2 * i + 1];
+        table.period[i] = number(line, 2 * i);
+        table.deadline[i] = number(line, 2 * i + 1);
     }
     table
 }
 
 // The table with the queue of a line `queue R s s ..` added.
-fn queue_added(before: Plan, line: Line) -> Plan {
+fn queue_added(before: Plan, line: &[u8]) -> Plan {
     let mut table = before;
     let queue = before.queues;
     if Plan::QUEUES <= queue {
@@ -33,10 +36,11 @@ fn queue_added(before: Plan, line: Line) -> Plan {
         return table;
     }
     table.queues = queue + 1;
-    table.receiver[queue] = line.value[0] as usize;
+    table.receiver[queue] = number(line, 0) as usize;
+    let numbers = count(line);
     for k in 1..MOST {
-        let task = line.value[k] as usize;
-        if task < Plan::TASKS && k < line.count {
+        let task = number(line, k) as usize;
+        if task < Plan::TASKS && k < numbers {
             table.sends[queue * Plan::TASKS + task] = true;
         }
     }
@@ -44,8 +48,8 @@ fn queue_added(before: Plan, line: Line) -> Plan {
 }
 
 // The table after a line.
-pub fn table_after(table: Plan, line: Line) -> Plan {
-    let word = line.word;
+pub fn table_after(table: Plan, line: &[u8]) -> Plan {
+    let word = letter(line, 0);
     match word {
         b't' => tasks_of(line),
         b'q' => queue_added(table, line),
@@ -86,11 +90,11 @@ fn planned(table: Plan) -> Plan {
 }
 
 // The plan after a line `alter FIELD VALUE` or `alter FIELD INDEX VALUE`. An index counts modulo the field's length.
-fn altered(before: Plan, line: Line) -> Plan {
-    let i = line.value[0] as usize;
-    let value = line.value[1];
+fn altered(before: Plan, line: &[u8]) -> Plan {
+    let i = number(line, 0) as usize;
+    let value = number(line, 1);
     let mut plan = before;
-    let field = line.field;
+    let field = letter(line, FIELD);
     match field {
         b't' => plan.tasks = i,
         b'q' => plan.queues = i,
@@ -103,16 +107,6 @@ fn altered(before: Plan, line: Line) -> Plan {
         _ => {}
     }
     plan
-}
-
-// The plan after a line.
-pub fn plan_after(plan: Plan, table: Plan, line: Line) -> Plan {
-    let word = line.word;
-    match word {
-        b'p' => planned(table),
-        b'a' => altered(plan, line),
-        _ => plan,
-    }
 }
 
 fn say_number(answer: Numbered) {
@@ -140,14 +134,25 @@ fn say_window(answer: Window) {
 }
 
 // The lines `number q i k`, `back q n` and `window q m`: a lookup's answer.
-pub fn look_up(plan: Plan, line: Line) {
-    let queue = line.value[0] as usize;
-    let second = line.value[1];
-    let word = line.word;
+fn look_up(plan: Plan, line: &[u8]) {
+    let queue = number(line, 0) as usize;
+    let second = number(line, 1);
+    let word = letter(line, 0);
     match word {
-        b'n' => say_number(lookups::number_of(plan, queue, second as usize, Job(line.value[2]))),
+        b'n' => say_number(lookups::number_of(plan, queue, second as usize, Job(number(line, 2)))),
         b'b' => say_origins(lookups::way_back(plan, queue, Number(second))),
         b'w' => say_window(lookups::window_of(plan, queue, Job(second))),
         _ => {}
     }
+}
+
+// The plan after a line.
+pub fn plan_after(plan: Plan, table: Plan, line: &[u8]) -> Plan {
+    let word = letter(line, 0);
+    match word {
+        b'p' => return planned(table),
+        b'a' => return altered(plan, line),
+        _ => look_up(plan, line),
+    }
+    plan
 }

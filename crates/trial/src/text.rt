@@ -7,19 +7,17 @@ use plan::refusal::Refusal;
 pub const MOST: usize = 40;
 
 // Where the second word stands behind `alter` or `force`.
-const FIELD: usize = 6;
+pub const FIELD: usize = 6;
 
-// The first letters of the words, and so many numbers, with zeros behind them. Inside a number, the one at `count` is not yet whole.
-pub struct Line {
-    pub word: u8,
-    pub field: u8,
-    pub count: usize,
-    pub is_inside: bool,
-    pub value: [u64; MOST],
+// What is found of a line's numbers: so many are whole, and the wanted one is this, as far as it is read.
+struct Found {
+    count: usize,
+    is_inside: bool,
+    value: u64,
 }
 
-fn letter(text: &[u8], at: usize) -> u8 {
-    if at < text.len() { text[at] } else { b'#' }
+pub fn letter(line: &[u8], at: usize) -> u8 {
+    if at < line.len() { line[at] } else { b'#' }
 }
 
 // The number with a digit more, and the greatest number where it would not fit.
@@ -34,41 +32,50 @@ fn grown(value: u64, digit: u8) -> u64 {
     value * 10 + d
 }
 
-impl Line {
-    // The line after a byte more of it.
-    fn after(mut self, b: u8) -> Line {
-        let at = self.count;
-        if MOST <= at {
-            return self;
-        }
-        if b'0' <= b && b <= b'9' {
-            self.is_inside = true;
-            self.value[at] = grown(self.value[at], b);
-            return self;
-        }
-        if self.is_inside {
-            self.count = at + 1;
-        }
-        self.is_inside = false;
-        self
+// What is found after a byte more.
+fn found_after(mut found: Found, wanted: usize, b: u8) -> Found {
+    let count = found.count;
+    if MOST <= count {
+        return found;
     }
+    if b'0' <= b && b <= b'9' {
+        found.is_inside = true;
+        if count == wanted {
+            found.value = grown(found.value, b);
+        }
+        return found;
+    }
+    if found.is_inside {
+        found.count = count + 1;
+    }
+    found.is_inside = false;
+    found
+}
 
-    pub fn of(text: &[u8]) -> Line {
-        let mut line = Line {
-            word: letter(text, 0),
-            field: letter(text, FIELD),
-            count: 0,
-            is_inside: false,
-            value: [0; MOST],
-        };
-        for k in 0..text.len() {
-            if text[k] == b'#' {
-                break;
-            }
-            line = line.after(text[k]);
+fn find(line: &[u8], wanted: usize) -> Found {
+    let mut found = Found {
+        count: 0,
+        is_inside: false,
+        value: 0,
+    };
+    for k in 0..line.len() {
+        if line[k] == b'#' {
+            break;
         }
-        line.after(b' ')
+        found = found_after(found, wanted, line[k]);
     }
+    found_after(found, wanted, b' ')
+}
+
+// The line's number that has so many before it, and 0 where there is none.
+pub fn number(line: &[u8], before: usize) -> u64 {
+    let found = find(line, before);
+    found.value
+}
+
+pub fn count(line: &[u8]) -> usize {
+    let found = find(line, MOST);
+    found.count
 }
 
 // Writes words, two numbers and a line end.

@@ -1,8 +1,8 @@
 // The view of a receive answer: 24 bytes without copying. It knows no plan and compares no number; the answer says all.
-use mailbox::Received;
 use plan::Plan;
+use running::Received;
 ghost use Rattle.common.specs.Words.{_≡_};
-ghost use Rattle.mailbox.specs.View.{viewOf, placeOf};
+ghost use Rattle.running.specs.View.{viewOf, placeOf};
 
 // A message's payload bytes in the memory, the filler's bytes for a gap, and else the empty part at the filler's start.
 pub fn view<'a>(answer: Received, memory: &'a [u8], filler: &'a [u8]) -> &'a [u8]

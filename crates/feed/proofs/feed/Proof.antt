@@ -1,14 +1,12 @@
--- `feed::feed`: the lines that end in the block take their turns. Every arm of the match starts from the frame of a line, and shows only that
--- what it did is the turn of the line's bytes; that the loop goes on from there is said once for all arms.
-use Rattle.common.specs.Words.{needs, arith, List, _≡_, refl, _∙_, ℕ, _+_, _-_, _<_, _≤_, length, take, length-take}
+-- `feed::feed`: the lines that end in the block take their turns. Both arms start from the frame of a line, and show only that what
+-- they did is the turn of the line's bytes; that the loop goes on from there is said once for both.
+use Rattle.common.specs.Words.{needs, arith, List, _≡_, refl, sym, _∙_, ℕ, _+_, _-_, _<_, _≤_, length, take, length-take}
 use borrow.Rule.Slice.PartMut.{midOf, putMid}
 use mir.Syntax.{w64}
 use mir.Val.{Fits}
-use Rattle.console.specs.Entries.{sentState, readState}
-use Rattle.console.specs.SendCalls.{sent, sends-on}
-use Rattle.console.specs.ReceiveCalls.{read, reads-on}
 use Rattle.console.specs.Desk.{withState}
-use Rattle.console.specs.Turns.{bad-taken, send-framed, receive-framed}
+use Rattle.console.specs.Turns.{frame-taken}
+use Rattle.console.specs.Parts.{called}
 use Rattle.lines.specs.Ends.{end-past}
 use Rattle.feed.specs.Feed.{enough}
 use Rattle.feed.specs.Outcome.{worldOf, fedFrom}
@@ -103,99 +101,49 @@ module _ (k : tie.After-frame-of Inv-loop μ-loop) where
 add-at : tie.Need-add-at Inv-loop μ-loop
 add-at k = omega (arith, end-inside k, start (ended k) .good .1 .1 .1 .1 .0 .0)
 
--- ## A frame that means nothing
+-- ## A call: 04, 05, or a frame that means nothing
 
-module _ (c : tie.After-slice-known6 Inv-loop μ-loop) where
-  abbrev bad-frame : tie.After-frame-of Inv-loop μ-loop
-  bad-frame = c .before .before .before .before .before .before
+abbrev call-frame : tie.After-spot-for Inv-loop μ-loop → tie.After-frame-of Inv-loop μ-loop
+call-frame o = o .before .before .before .before .before .before
 
-  abbrev bad-arm : Arm bad-frame
-  bad-arm =
-      let b = c .before .before in
-      record {
-        result = record { desk = _; written = b .write-bad .result };
-        memory′ = _;
-        after = _;
-        same-size = refl;
-        takes = bad-taken _ _ _ _ _ _ (bad-frame .frame-of .ensures) (b .before .before .enum-told .given .1) (b .write-bad .ensures);
-      }
-
--- ## 04
-
-abbrev send-frame : tie.After-spot-of Inv-loop μ-loop → tie.After-frame-of Inv-loop μ-loop
-send-frame o = o .before .before .before .before .before .before .before
-
-send-line-requires : tie.Need-send-line-requires Inv-loop μ-loop
-send-line-requires c κs =
+call-line-requires : tie.Need-call-line-requires Inv-loop μ-loop
+call-line-requires c κs =
     let o = c .before .before .before .before .before .before .before .before .before .before .before in
-    (rw (o .spot-of .ensures) (turn (send-frame o) .loop .inv .0 .sound .sound), room (send-frame o))
+    (rw (o .spot-for .ensures .0) (turn (call-frame o) .loop .inv .0 .sound .sound), room (call-frame o))
 
 module _ (c : tie.After-struct-known Inv-loop μ-loop) where
-  abbrev send : tie.After-send-line Inv-loop μ-loop
-  send = c .before .before .before .before .before .before .before .before
+  abbrev called-line : tie.After-call-line Inv-loop μ-loop
+  called-line = c .before .before .before .before .before .before .before .before .before .before
 
-  abbrev send-spot : tie.After-spot-of Inv-loop μ-loop
-  send-spot = send .before .before .before .before .before .before .before .before .before .before .before .before
+  abbrev spot : tie.After-spot-for Inv-loop μ-loop
+  spot = called-line .before .before .before .before .before .before .before .before .before .before .before .before
 
-  abbrev send-arm : Arm (send-frame send-spot)
-  send-arm =
-      let f = send-spot .before .before .before .before .before in
-      let p = send .before .before .before .before .before .before .before .before .before .before in
+  abbrev call-arm : Arm (call-frame spot)
+  call-arm =
+      let i = spot .before .before .before .before in
+      let p = called-line .before .before in
+      let e = spot .spot-for .ensures in
       record {
-        result = sent _ _ _ (send .send-line .result);
+        result = called _ (call-frame spot .frame-of .result) (called-line .call-line .result);
         memory′ = _;
         after = _;
-        same-size = c .before .before .before .before .before .before .before .memory .given;
+        same-size = c .before .before .before .before .before .before .before .before .before .memory .given;
         takes =
-            send-framed _ _ _ _ (send-frame send-spot .frame-of .ensures) (f .frame .given .1) (p .payload-in .ensures)
-            (send .send-line .ensures _ (sends-on _ _ _ _ _ (send-spot .spot-of .ensures) (send-spot .before .last-sent .ensures)));
+            frame-taken _ _ _ _ (call-frame spot .frame-of .ensures) (p .payload-in .ensures)
+            (called-line .call-line .ensures _ (record { running = sym (e .0); plan = refl; tick = sym (e .1); entry = e .2 })
+            (sym (i .before .from-parts .ensures) ∙ i .if2 .taken));
       }
 
--- with the entry stored
-loop-again-2 : tie.Need-loop-again-2 Inv-loop μ-loop
-unfolding withState sentState
-loop-again-2 c = rw (c .before .put-entry .ensures) (again (send-frame (send-spot c)) (send-arm c))
+-- with the entry and the reading place stored
+loop-again : tie.Need-loop-again Inv-loop μ-loop
+unfolding withState
+loop-again c = rw (c .before .put-place .ensures, c .before .before .before .put-entry .ensures) (again (call-frame (spot c)) (call-arm c))
 
--- ## 05
-
-abbrev receive-frame : tie.After-spot-of2 Inv-loop μ-loop → tie.After-frame-of Inv-loop μ-loop
-receive-frame o = o .before .before .before .before .before .before .before
-
-receive-line-requires : tie.Need-receive-line-requires Inv-loop μ-loop
-receive-line-requires c κs =
-    let o = c .before .before .before .before .before .before .before .before .before in
-    (rw (o .spot-of2 .ensures) (turn (receive-frame o) .loop .inv .0 .sound .sound), room (receive-frame o))
+-- ## A frame that changes the desk as a whole
 
 module _ (c : tie.After-struct-known2 Inv-loop μ-loop) where
-  abbrev receive : tie.After-receive-line Inv-loop μ-loop
-  receive = c .before .before .before .before .before .before
-
-  abbrev receive-spot : tie.After-spot-of2 Inv-loop μ-loop
-  receive-spot = receive .before .before .before .before .before .before .before .before .before .before
-
-  abbrev receive-arm : Arm (receive-frame receive-spot)
-  receive-arm =
-      let f = receive-spot .before .before .before .before .before in
-      record {
-        result = read _ _ (receive .receive-line .result);
-        memory′ = _;
-        after = _;
-        same-size = refl;
-        takes =
-            receive-framed _ _ _ _ (receive-frame receive-spot .frame-of .ensures) (f .frame2 .given .1)
-            (receive .receive-line .ensures _ (reads-on _ _ _ _ (receive-spot .spot-of2 .ensures) (receive-spot .before .reading-of .ensures)));
-      }
-
--- with the reading place stored
-loop-again-3 : tie.Need-loop-again-3 Inv-loop μ-loop
-unfolding withState readState
-loop-again-3 c = rw (c .before .put-place .ensures) (again (receive-frame (receive-spot c)) (receive-arm c))
-
--- ## Every other frame
-
-module _ (c : tie.After-struct-known3 Inv-loop μ-loop) where
   abbrev act-frame : tie.After-frame-of Inv-loop μ-loop
-  act-frame = c .before .before .before .before .before .before .before .before .before .before .before
+  act-frame = c .before .before .before .before .before .before .before .before .before .before .before .before
 
   abbrev act-arm : Arm act-frame
   act-arm =
@@ -219,17 +167,11 @@ feed-spec =
     (λ c κs. search needs) (λ c. search needs) (λ c. search needs) (λ c. search needs) returns
     (λ c. search needs) bytes-until-requires
     (λ c. search needs) (λ c. simp length-take (omega (arith, c .before .before .before .before .bytes-until .ensures .0))) (λ c κs. search needs)
-    add-at
-    (λ c. search needs) (λ c. search needs) (λ c. search needs) (λ c. search needs) (λ c κs. search needs)
-    (λ c. fits (bad-frame c) (bad-arm c)) (λ c. less (bad-frame c)) (λ c. again (bad-frame c) (bad-arm c))
-    (λ c. search needs) (λ c κs. search needs) (λ c κs. search needs)
-    (λ c. search needs) (λ c. simp length-take (omega (arith, line (send-frame (c .before)) .bytes-until .ensures .0))) (λ c κs. search needs)
-    (λ c. search needs) (λ c. search needs) (λ c. search needs) send-line-requires (λ c κs. search needs)
-    (λ c. fits (send-frame (send-spot c)) (send-arm c)) (λ c. less (send-frame (send-spot c))) loop-again-2
-    (λ c. search needs) (λ c κs. search needs) (λ c κs. search needs)
-    (λ c. search needs) (λ c. search needs) (λ c. search needs) receive-line-requires (λ c κs. search needs)
-    (λ c. fits (receive-frame (receive-spot c)) (receive-arm c)) (λ c. less (receive-frame (receive-spot c))) loop-again-3
-    (λ c. search needs) (λ c. simp length-take (omega (arith, line (c .before .before .before) .bytes-until .ensures .0)))
+    add-at (λ c κs. search needs) (λ c κs. search needs)
+    (λ c. search needs) (λ c. simp length-take (omega (arith, line (call-frame (c .before .before .before .before .before .before .before .before .before)) .bytes-until .ensures .0))) (λ c κs. search needs)
+    (λ c. search needs) (λ c. search needs) (λ c. search needs) call-line-requires (λ c κs. search needs) (λ c κs. search needs)
+    (λ c. fits (call-frame (spot c)) (call-arm c)) (λ c. less (call-frame (spot c))) loop-again
+    (λ c. search needs) (λ c. simp length-take (omega (arith, line (c .before .before .before .before) .bytes-until .ensures .0)))
     (λ c. search needs) (λ c. search needs) (λ c. search needs) (λ c κs. search needs)
     (λ c. fits (act-frame c) (act-arm c)) (λ c. less (act-frame c)) (λ c. again (act-frame c) (act-arm c))
     (λ c κs. search needs) (λ c. search needs) (λ c. search needs) (λ c. search needs) returns-2)

@@ -6,10 +6,10 @@ use Rattle.trial.proofs.lent_after.Statement.{statement}
 use Rattle.trial.proofs.lent_after.Tie as tie
 
 abbrev Inv-loop : tie.InvT-loop
-Inv-loop before buffer₀ line byte k₀ k-end buffer k = (k ≤ k-end) × (k-end ≡ length buffer₀) × (length buffer ≡ length buffer₀)
+Inv-loop before line buffer₀ byte k₀ k-end buffer k = (k ≤ k-end) × (k-end ≡ length buffer₀) × (length buffer ≡ length buffer₀)
 
 abbrev μ-loop : tie.MeasureT-loop
-μ-loop before buffer₀ line byte k₀ k-end buffer k = k-end - k
+μ-loop before line buffer₀ byte k₀ k-end buffer k = k-end - k
 
 pub lent-after-spec : {M : Type 1} → statement M
 lent-after-spec =
@@ -17,14 +17,15 @@ lent-after-spec =
     (tie.spec
     Inv-loop
     μ-loop
+    (λ c κs. search needs)
+    (λ c. search needs)
+    (λ c κs. search needs)
     (λ c. search needs)
     (λ c. search needs)
     (λ c. search needs)
     (λ c. search needs)
     (λ c. search needs)
     (λ c. search needs)
-    (λ c. search needs)
-    (λ c. search needs)
-    (λ c. search needs)
+    (λ c κs. search needs)
     (λ c. search needs)
     (λ c. search needs))

@@ -1,15 +1,16 @@
 use borrow.Author.Needs.{needs}
-use lib.ListN.{length}
+use native.Mathlib.Omega.{arith}
+use lib.ListN.{length, length-take}
 use Prim.Native.Nat.{_-_, _≤_}
 use mathlib.Core.Path.{_≡_}
 use Rattle.trial.proofs.play.Statement.{statement}
 use Rattle.trial.proofs.play.Tie as tie
 
 abbrev Inv-loop : tie.InvT-loop
-Inv-loop text buffer₀ desk₀ at₀ end₀ buffer desk at end = (at ≤ end) × (end ≤ length text) × (length buffer ≡ length buffer₀)
+Inv-loop text buffer₀ table₀ plan₀ run₀ lent₀ at₀ end₀ buffer table plan run lent at end = (at ≤ end) × (end ≤ length text) × (length buffer ≡ length buffer₀)
 
 abbrev μ-loop : tie.MeasureT-loop
-μ-loop text buffer₀ desk₀ at₀ end₀ buffer desk at end = length text - end
+μ-loop text buffer₀ table₀ plan₀ run₀ lent₀ at₀ end₀ buffer table plan run lent at end = length text - end
 
 pub play-spec : {M : Type 1} → statement M
 play-spec =
@@ -29,6 +30,13 @@ play-spec =
     (λ c. search needs)
     (λ c. search needs)
     (λ c. search needs)
+    (λ c κs. search needs)
+    (λ c κs. search needs)
+    (λ c κs. search needs)
+    (λ c. search needs)
+    (λ c. search needs)
+    (λ c. search needs)
+    (λ c. simp length-take (omega arith))
     (λ c κs. search needs)
     (λ c. search needs)
     (λ c. search needs)

@@ -9,9 +9,9 @@ use Rattle.calendar.specs.declared.Number.{Number}
 use Rattle.calendar.specs.declared.Slot.{Slot}
 use Rattle.plan.specs.Limits.{payloadBytes, slotBytes}
 use Rattle.slots.specs.Slots.{slotAt, payloadIn}
-use Rattle.mailbox.specs.View.{viewOf, placeOf, after, slotInside, fillerFits}
-use Rattle.mailbox.specs.declared.Received.{Received}
-use Rattle.mailbox.proofs.Received.{the-type}
+use Rattle.running.specs.View.{viewOf, placeOf, after, slotInside, fillerFits}
+use Rattle.running.specs.declared.Received.{Received}
+use Rattle.running.proofs.Received.{the-type}
 use Rattle.view.proofs.view.Statement.{statement}
 use Rattle.view.proofs.view.Tie as tie
 

@@ -13,15 +13,16 @@ receive-on-requires : tie.Need-receive-on-requires
 receive-on-requires c κs = c .before .before .before .before .pre .0 (not-false _ (c .if1 .left))
 
 left-requires : tie.Need-left-requires
-left-requires c κs = look-counts _ _ _ (c .before .before .before .before .receive-on .ensures)
+left-requires c κs = look-counts _ _ _ _ _ _ (c .before .before .before .before .receive-on .ensures)
 
 returns-2 : tie.Need-returns-2
 returns-2 c =
     let w = c .before .before .before in
     let o = w .before .before in
+    let a = o .before .before .before .before .before .args in
     λ d on.
     rw (c .left .ensures)
-    (receive-left _ _ _ on (not-false _ (o .before .if1 .left)) (o .receive-on .ensures) (w .write-received .ensures))
+    (receive-left (a .memory .now) (a .at) (a .out .now) on (not-false _ (o .before .if1 .left)) (o .receive-on .ensures) (w .write-received .ensures))
 
 pub receive-line-spec : {M : Type 1} → statement M
 receive-line-spec =

@@ -3,7 +3,7 @@ use Rattle.common.specs.Words.{ℕ, List, [], _∷_, needs}
 use types.Run.{OneOf, miss}
 use denote.Enum.Declared.{tagOf}
 use Rattle.console.specs.Types.{Received}
-use Rattle.mailbox.proofs.Received.{the-type}
+use Rattle.running.proofs.Received.{the-type}
 use Rattle.frames.specs.Answers.{emptyBytes}
 use Rattle.frames.specs.Writing.{Written}
 use Rattle.console.specs.Desk.{receivedBytes}

@@ -1,7 +1,9 @@
--- `console::table::add_task`: the tests of a row more, in their order.
-use Rattle.common.specs.Words.{needs, refl, le-leb, lt-leb}
+-- `console::table::add_task`: by whether the table takes a row more.
+use Rattle.common.specs.Words.{needs, _<_, refl}
+use Rattle.common.specs.Tests.{failed, passed}
+use Rattle.plan.specs.Limits.{taskLimit}
 use Rattle.console.specs.Desk.{withTask}
-use Rattle.console.specs.Turns.{row-running, row-beyond, row-added}
+use Rattle.console.specs.Turns.{room-for, row-refused, row-added}
 use Rattle.console.proofs.table.add_task.Statement.{statement}
 use Rattle.console.proofs.table.add_task.Tie as tie
 
@@ -9,31 +11,26 @@ returns : tie.Need-returns
 returns c =
     let w = c .before .before in
     let t = w .before .before in
-    λ m. rw (row-running (t .before .before .args .t1) m _ _ (t .if1 .taken)) (w .refuse-line .ensures m)
+    λ m. rw (row-refused (t .before .before .before .args .t1) m _ _ (failed (t .before .takes-row .ensures) (t .if1 .taken))) (w .refuse-line .ensures m)
+
+room : (c : tie.Else1) → c .before .before .before .args .t1 .tasks < taskLimit
+room c = let d = c .before .before .before .args .t1 in room-for (d .running) (d .tasks) taskLimit (passed (c .before .takes-row .ensures) (c .if1 .left))
 
 returns-2 : tie.Need-returns-2
-returns-2 c =
-    let w = c .before .before in
-    let t = w .before .before in
-    λ m. rw (row-beyond (t .before .before .before .args .t1) m _ _ (t .before .if1 .left) (le-leb _ _ (t .if2 .taken))) (w .refuse-line2 .ensures m)
-
-returns-3 : tie.Need-returns-3
 unfolding withTask
-returns-3 c = λ m. rw (row-added (c .before .before .before .args .t1) m _ _ (c .before .if1 .left) (lt-leb _ _ (c .if2 .left))) (refl, refl, refl)
+returns-2 c = λ m. rw (row-added (c .before .before .before .args .t1) m _ _ (passed (c .before .takes-row .ensures) (c .if1 .left))) (refl, refl, refl)
 
 pub add-task-spec : {M : Type 1} → statement M
 add-task-spec =
     tie.close
     (tie.spec
     (λ c κs. search needs)
-    (λ c. search needs)
-    returns
     (λ c κs. search needs)
     (λ c. search needs)
-    returns-2
-    (λ c. search needs)
-    (λ c. search needs)
-    (λ c. search needs)
-    (λ c. search needs)
-    (λ c. search needs)
-    returns-3)
+    returns
+    (λ c. let f = room c in search needs)
+    (λ c. let f = room c in search needs)
+    room
+    (λ c. let f = room c in search needs)
+    room
+    returns-2)

@@ -1,6 +1,7 @@
 -- `number::number_due`: the loop keeps the sum over the rows passed, each up to the task's message.
-use Rattle.common.specs.Words.{needs, _+_, _≤_, _-_, _≡_, refl, arith}
+use Rattle.common.specs.Words.{needs, _+_, _*_, _≤_, _-_, ⊎-elim, _≡_, refl, sym, arith}
 use Rattle.common.specs.Totals.{sum, sum-next, sum-up}
+use Rattle.plan.specs.Limits.{taskLimit, lastTick}
 use Rattle.counting.specs.Columns.{columnsAt}
 use Rattle.counting.specs.Bounds.{row-positive, upTo-fits}
 use Rattle.counting.specs.Until.{rowUntil, until-all}
@@ -18,40 +19,55 @@ loop-holds : tie.Need-loop-holds Inv-loop μ-loop
 unfolding sum
 loop-holds c = (omega arith, refl)
 
-row-up-to-requires : tie.Need-row-up-to-requires Inv-loop μ-loop
-row-up-to-requires c κs =
-    let l = c .before .before .before .before .before .before in
+count-requires : tie.Need-count-requires Inv-loop μ-loop
+count-requires c κs =
+    let l = c .before .before .before .before .before .before .before in
     row-positive (l .before .before .pre .0) (l .loop .i) (omega arith)
 
 -- no part of the sum is more than all messages up to the tick
-add-sum : tie.Need-add-sum Inv-loop μ-loop
-add-sum c =
-    let u = c .before .before .before .before in
-    let l = u .before .before .before in
-    let k = l .before .before in
+part-fits : (l : tie.In-loop Inv-loop μ-loop) → let a = l .before .before .before .args in
+    let f = rowUntil (columnsAt (a .sends .now) (a .period .now) (a .deadline .now) (a .tasks) (a .queue)) (a .at .0) (a .task) in
+    l .before .loop .sum + f (l .before .loop .i) ≤ taskLimit * lastTick
+part-fits l =
+    let k = l .before .before .before in
     let a = k .args in
     let q = columnsAt (a .sends .now) (a .period .now) (a .deadline .now) (a .tasks) (a .queue) in
     let f = rowUntil q (a .at .0) (a .task) in
+    let i = l .before .loop .i in
     omega (
       arith,
-      rw (u .last-counted .ensures, u .before .precedes .ensures q, l .before .tick-before .ensures) at (c .row-up-to .ensures),
-      sum-next f (l .loop .i),
-      sum-up f (l .loop .i + 1) (a .tasks) (omega arith),
+      l .before .loop .inv .1,
+      sum-next f i,
+      sum-up f (i + 1) (a .tasks) (omega arith),
       until-all q (k .pre .0 .valid) (a .at .0) (a .task),
       upTo-fits (k .pre .0) (a .at .0) (k .pre .1),
     )
 
+add-sum : tie.Need-add-sum Inv-loop μ-loop
+add-sum c =
+    let u = c .before .before .before in
+    let t = u .before .before in
+    let l = t .before .before in
+    let a = l .before .before .before .args in
+    let q = columnsAt (a .sends .now) (a .period .now) (a .deadline .now) (a .tasks) (a .queue) in
+    let r = rw (u .last-counted .ensures, u .before .precedes .ensures q, l .before .before .tick-before .ensures) at (c .count .ensures) in
+    let e : rowUntil q (a .at .0) (a .task) (l .before .loop .i) ≡ c .count .result = simp (t .if1 .taken) (sym r) in
+    omega (arith, part-fits l, e)
+
 loop-again : tie.Need-loop-again Inv-loop μ-loop
 loop-again c =
-    let u = c .before .before .before .before in
-    let l = u .before .before .before in
+    let l = c .before .before .before in
     let a = l .before .before .args in
     let q = columnsAt (a .sends .now) (a .period .now) (a .deadline .now) (a .tasks) (a .queue) in
-    omega (
-      arith,
-      rw (u .last-counted .ensures, u .before .precedes .ensures q, l .before .tick-before .ensures) at (c .row-up-to .ensures),
-      sum-next (rowUntil q (a .at .0) (a .task)) (l .loop .i),
-    )
+    let row = rowUntil q (a .at .0) (a .task) (l .loop .i) in
+    let e : c .if1 .sum ≡ l .loop .sum + row =
+    ⊎-elim
+    (λ w.
+    let r = rw (w .2 .ensures, w .1 .ensures q, l .before .tick-before .ensures) at (w .5 .ensures) in
+    let e : row ≡ w .5 .result = simp (w .0 .taken) (sym r) in omega (arith, w .6, e))
+    (λ w. let e : row ≡ 0 = simp (w .0 .left) in omega (arith, w .1, e))
+    (c .if1 .came) in
+    omega (arith, e, sum-next (rowUntil q (a .at .0) (a .task)) (l .loop .i))
 
 returns : tie.Need-returns Inv-loop μ-loop
 returns c =
@@ -70,15 +86,15 @@ number-due-spec =
     (λ c. search needs)
     (λ c κs. search needs)
     loop-holds
+    (λ c. search needs)
+    (λ c. search needs)
     (λ c κs. search needs)
     (λ c κs. search needs)
     (λ c. search needs)
     (λ c. search needs)
     (λ c. search needs)
     (λ c. search needs)
-    (λ c. search needs)
-    (λ c. search needs)
-    row-up-to-requires
+    count-requires
     add-sum
     (λ c. search needs)
     (λ c. search needs)

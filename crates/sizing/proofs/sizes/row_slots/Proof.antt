@@ -1,21 +1,23 @@
--- `sizing::sizes::row_slots`: the loop keeps the greatest need of the jobs passed. The second hyperperiod ends before the last tick.
-use Rattle.common.specs.Words.{ℕ, _+_, _-_, _/_, _<_, _≤_, div-le-self, div-mul-le-self, mul-le-mul-right, arith, _≡_, refl, needs}
+-- `sizing::sizes::row_slots`: the loop keeps the greatest need of the jobs passed, and what is outdated from the next job's release on. The
+-- second hyperperiod ends before the last tick.
+use Rattle.common.specs.Words.{ℕ, _+_, _-_, _/_, _<_, _≤_, le-refl, div-le-self, div-mul-le-self, mul-le-mul-right, arith, _≡_, refl, needs}
 use Rattle.common.specs.Totals.{most, most-next}
-use Rattle.model.specs.Model.{Queue, Valid, Sender, deadlineOf}
+use Rattle.model.specs.Model.{Queue, Valid, Sender, releaseOf, deadlineOf, upTo}
 use Rattle.plan.specs.Limits.{lastTick, longestPeriod, longestHyperperiod}
 use Rattle.counting.specs.Columns.{columnsAt}
 use Rattle.counting.specs.Bounds.{row-positive}
-use Rattle.sizing.specs.Needs.{needFor}
+use Rattle.sizing.specs.Needs.{horizonFor, needFor, OutdatedFrom, outdated-less}
 use Rattle.sizing.proofs.sizes.row_slots.Statement.{statement}
 use Rattle.sizing.proofs.sizes.row_slots.Tie as tie
 
 abbrev Inv-loop : tie.InvT-loop
-Inv-loop sends period deadline tasks queue chart wanted task ticks jobs most₀ k₀ most k =
+Inv-loop sends period deadline tasks queue chart wanted task ticks jobs most₀ outdated₀ k₀ most outdated k =
     let q = columnsAt sends period deadline tasks queue in
     (k ≤ jobs) × (most ≡ Rattle.common.specs.Totals.most (λ k. needFor q chart wanted task (jobs + k)) k)
+    × OutdatedFrom q chart wanted (releaseOf q task (jobs + k)) (outdated .until) (outdated .count)
 
 abbrev μ-loop : tie.MeasureT-loop
-μ-loop sends period deadline tasks queue chart wanted task ticks jobs most₀ k₀ most k = jobs - k
+μ-loop sends period deadline tasks queue chart wanted task ticks jobs most₀ outdated₀ k₀ most outdated k = jobs - k
 
 -- the jobs of the second hyperperiod
 in-time : (q : Queue) → Valid q → (i H k : ℕ) → Sender q i → q .period i ≤ longestPeriod → H ≤ longestHyperperiod →
@@ -28,42 +30,74 @@ in-time q v i H k s f h l =
       mul-le-mul-right {m = k} {n = H / q .period i} (q .period i) (omega arith),
     )
 
+-- one job of the loop
+module _ (l : tie.In-loop Inv-loop μ-loop) where
+  abbrev start : tie.Start Inv-loop μ-loop
+  start = l .before .before .before
+
+  abbrev columns : Queue
+  columns = let a = start .args in columnsAt (a .sends .now) (a .period .now) (a .deadline .now) (a .tasks) (a .queue)
+
+  abbrev task : ℕ
+  task = start .args .task
+
+  abbrev job : ℕ
+  job = start .args .ticks / columns .period task + l .before .loop .k
+
+  within : deadlineOf columns task job ≤ lastTick
+  within =
+      let p = start .pre in
+      in-time columns (p .0 .valid) task (start .args .ticks) (l .before .loop .k) (p .4) (p .5) (p .6) (l .loop-test .taken)
+
 div-jobs : tie.Need-div-jobs Inv-loop μ-loop
 div-jobs c =
     let k = c .before in
-    row-positive (k .pre .0) (k .args .task) (k .pre .2 .row) .0
+    row-positive (k .pre .0) (k .args .task) (k .pre .4 .row) .0
 
 loop-holds : tie.Need-loop-holds Inv-loop μ-loop
 unfolding most
-loop-holds c = (omega arith, refl)
+loop-holds c = (omega arith, refl, λ r f g. absurd (omega arith))
 
-add-job : tie.Need-add-t20 Inv-loop μ-loop
-add-job c =
-    let a = c .before .before .before .args in
-    let q = columnsAt (a .sends .now) (a .period .now) (a .deadline .now) (a .tasks) (a .queue) in
-    omega (arith, div-le-self (a .ticks) (q .period (a .task)))
+jobs-small : (l : tie.In-loop Inv-loop μ-loop) → job l ≤ lastTick
+jobs-small l =
+    let a = start l .args in
+    omega (arith, div-le-self (a .ticks) (columns l .period (a .task)), start l .pre .6, l .loop-test .taken)
+
+release-requires : tie.Need-release-of-requires Inv-loop μ-loop
+release-requires c κs = omega (arith, within (c .before))
+
+outdated-requires : tie.Need-outdated-at-requires Inv-loop μ-loop
+outdated-requires c κs =
+    let l = c .before .before in
+    let p = start l .pre in
+    rw (c .release-of .ensures) (p .0, p .1, p .2, p .3, omega (arith, within l), l .before .loop .inv .2)
+
+-- what is outdated at the job's release
+known : (c : tie.After-outdated-at Inv-loop μ-loop) → let l = c .before .before .before in let a = start l .args in
+    (upTo (columns l) (horizonFor (a .chart) (a .wanted) (releaseOf (columns l) (task l) (job l))) ≡ c .outdated-at .result .count)
+    × OutdatedFrom (columns l) (a .chart) (a .wanted) (releaseOf (columns l) (task l) (job l)) (c .outdated-at .result .until) (c .outdated-at .result .count)
+known c =
+    let e = rw (c .before .release-of .ensures) at (c .outdated-at .ensures) in
+    (e .1 _ (le-refl _) (e .0), e .1)
 
 need-requires : tie.Need-need-of-requires Inv-loop μ-loop
 need-requires c κs =
-    let l = c .before in
-    let k = l .before .before in
-    let p = k .pre in
-    let a = k .args in
-    let q = columnsAt (a .sends .now) (a .period .now) (a .deadline .now) (a .tasks) (a .queue) in
-    (p .0, p .1, p .2, in-time q (p .0 .valid) (a .task) (a .ticks) (l .loop .k) (p .2) (p .3) (p .4) (c .loop-test .taken))
-
-add-k : tie.Need-add-k Inv-loop μ-loop
-add-k c =
-    let a = c .before .before .before .before .before .args in
-    let q = columnsAt (a .sends .now) (a .period .now) (a .deadline .now) (a .tasks) (a .queue) in
-    omega (arith, div-le-self (a .ticks) (q .period (a .task)))
+    let l = c .before .before .before in
+    let a = start l .args in
+    let p = start l .pre in
+    (p .0, p .4, within l, omega (arith, known c .0, outdated-less (columns l) (p .0 .valid) (a .chart) (a .wanted) (task l) (job l) (p .4)))
 
 loop-again : tie.Need-loop-again Inv-loop μ-loop
 loop-again c =
-    let l = c .before .before .before in
-    let a = l .before .before .args in
-    let q = columnsAt (a .sends .now) (a .period .now) (a .deadline .now) (a .tasks) (a .queue) in
-    (omega arith, rw (most-next (λ k. needFor q (a .chart) (a .wanted) (a .task) (a .ticks / q .period (a .task) + k)) (l .loop .k), ← l .loop .inv .1, ← c .before .need-of .ensures) (c .larger .ensures))
+    let n = c .before in
+    let o = n .before in
+    let l = o .before .before .before in
+    let a = start l .args in
+    let e : n .need-of .result ≡ needFor (columns l) (a .chart) (a .wanted) (task l) (job l) = rw (known o .0) (n .need-of .ensures) in (
+      omega arith,
+      rw (most-next (λ k. needFor (columns l) (a .chart) (a .wanted) (task l) (a .ticks / columns l .period (task l) + k)) (l .before .loop .k), ← l .before .loop .inv .1, ← e) (c .larger .ensures),
+      λ r f g. known o .1 r (omega (arith, f)) g,
+    )
 
 returns : tie.Need-returns Inv-loop μ-loop
 returns c =
@@ -83,10 +117,14 @@ row-slots-spec =
     (λ c. search needs)
     div-jobs
     loop-holds
-    add-job
+    (λ c. omega (arith, jobs-small c))
+    (λ c. search needs)
+    (λ c. search needs)
+    release-requires
+    outdated-requires
     need-requires
     (λ c κs. search needs)
-    add-k
+    (λ c. omega (arith, jobs-small (c .before .before .before .before .before)))
     (λ c. search needs)
     loop-again
     returns)

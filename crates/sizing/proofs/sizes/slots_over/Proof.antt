@@ -3,6 +3,7 @@ use Rattle.common.specs.Words.{ℕ, _-_, _<_, _≤_, arith, _≡_, refl, needs,
 use Rattle.common.specs.Totals.{only, most, most-next}
 use Rattle.model.specs.Model.{rowSlots, slotsOver}
 use Rattle.model.specs.Order.{period-pos}
+use Rattle.model.specs.Outdating.{wanted-fits}
 use Rattle.plan.specs.Limits.{taskLimit}
 use Rattle.plan.specs.Plan.{queueAt, Usable}
 use Rattle.plan.specs.declared.Plan.{Plan}
@@ -50,8 +51,17 @@ share-requires c κs =
     let k = l .before .before .before .before .before in
     let u = k .pre .0 in
     let q = queueAt (k .args .t1) (k .args .queue) in
-    let taken = c .before .before .before .before .loop-test .taken in
-    (lent _ _ u, period-pos q (u .valid) (q .receiver) (u .valid .receiver-row), taken, u .periods-fit (l .loop .i) taken, k .pre .1)
+    let row = u .valid .receiver-row in
+    let chart = u .periods-fit (q .receiver) row in
+    let taken = c .before .before .before .before .loop-test .taken in (
+      lent _ _ u,
+      period-pos q (u .valid) (q .receiver) row,
+      chart,
+      rw (l .before .wanted-for .ensures q refl) (omega (arith, wanted-fits q (u .valid), chart)),
+      taken,
+      u .periods-fit (l .loop .i) taken,
+      k .pre .1,
+    )
 
 loop-again : tie.Need-loop-again Inv-loop μ-loop
 loop-again c =

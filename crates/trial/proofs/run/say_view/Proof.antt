@@ -1,42 +1,20 @@
-use borrow.Author.Needs.{needs}
 use native.Mathlib.Omega.{arith}
-use lib.ListN.{length, length-take}
-use Prim.Native.Nat.{_-_, _≤_}
+use lib.ListN.{length-take}
+use borrow.Author.Needs.{needs}
 use Rattle.trial.proofs.run.say_view.Statement.{statement}
 use Rattle.trial.proofs.run.say_view.Tie as tie
-
-abbrev Inv-loop : tie.InvT-loop
-Inv-loop memory asked bytes k₀ t11 k-end k = (k ≤ k-end) × (k-end ≤ length bytes)
-
-abbrev μ-loop : tie.MeasureT-loop
-μ-loop memory asked bytes k₀ t11 k-end k = k-end - k
 
 pub say-view-spec : {M : Type 1} → statement M
 say-view-spec =
     tie.close
     (tie.spec
-    Inv-loop
-    μ-loop
+    (λ c κs. search needs)
     (λ c. search needs)
-    (λ c. search needs)
-    (λ c. search needs)
+    (λ c κs. search needs)
     (λ c. search needs)
     (λ c. search needs)
     (λ c. search needs)
     (λ c. simp length-take (omega arith))
     (λ c κs. search needs)
-    (λ c. search needs)
-    (λ c κs. search needs)
-    (λ c. search needs)
-    (λ c. search needs)
-    (λ c κs. search needs)
-    (λ c. search needs)
-    (λ c. search needs)
-    (λ c. omega (arith, c .shared-slice-known2 .given (c .before .before .loop .k)))
-    (λ c κs. search needs)
-    (λ c. search needs)
-    (λ c. search needs)
-    (λ c. search needs)
-    (λ c. search needs)
     (λ c κs. search needs)
     (λ c. search needs))

@@ -4,10 +4,10 @@ use Rattle.trial.proofs.table.queue_added.Statement.{statement}
 use Rattle.trial.proofs.table.queue_added.Tie as tie
 
 abbrev Inv-loop : tie.InvT-loop
-Inv-loop line table₀ queue k₀ table k = (k ≤ 40) × (queue < 8)
+Inv-loop line table₀ queue numbers k₀ table k = (k ≤ 40) × (queue < 8)
 
 abbrev μ-loop : tie.MeasureT-loop
-μ-loop line table₀ queue k₀ table k = 40 - k
+μ-loop line table₀ queue numbers k₀ table k = 40 - k
 
 pub queue-added-spec : {M : Type 1} → statement M
 queue-added-spec =
@@ -18,12 +18,12 @@ queue-added-spec =
     (λ c. search needs)
     (λ c. search needs)
     (λ c. search needs)
+    (λ c κs. search needs)
     (λ c. search needs)
     (λ c. search needs)
+    (λ c κs. search needs)
     (λ c. search needs)
-    (λ c. search needs)
-    (λ c. search needs)
-    (λ c. search needs)
+    (λ c κs. search needs)
     (λ c. search needs)
     (λ c. search needs)
     (λ c. search needs)
