@@ -1,1 +1,2 @@
+-- The pages of this crate's definitions and laws.
 pub mod Calendar

@@ -1,3 +1,4 @@
+-- The pages of this crate's definitions and laws.
 pub mod Hex
 pub mod HexLaws
 pub mod Numbers

@@ -1,3 +1,4 @@
+-- The pages of this crate's definitions and laws.
 pub mod Model
 pub mod Count
 pub mod Ties

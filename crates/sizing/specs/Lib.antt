@@ -1,3 +1,4 @@
+-- The pages of this crate's definitions and laws.
 pub mod Cycle
 pub mod Bounds
 pub mod Needs

@@ -1,3 +1,4 @@
+-- `calendar::gcd`: the second argument falls with each call, and Euclid's rule keeps the divisor.
 use Rattle.common.specs.Words.{sym, _∙_, mod-lt, pos-of-ne-zero, arith, needs, ℕ, _<_}
 use Rattle.model.specs.Gcd.{gcd-zero, gcd-step}
 use borrow.Fn.Kinds.{In}

@@ -1,3 +1,4 @@
+-- `feed::finish`: by whether a line was begun; then a step of the console.
 use Rattle.common.specs.Words.{needs, arith, pos-of-ne-zero, _≡_, refl, length, take, length-take, length-take-le}
 use Rattle.feed.specs.Step.{step-takes}
 use Rattle.feed.specs.Last.{last-none, last-line}

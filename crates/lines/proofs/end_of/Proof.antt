@@ -1,3 +1,4 @@
+-- `lines::end_of`: every byte passed is no line feed.
 use Rattle.common.specs.Words.{needs, _≡_, sym, _∙_, _-_, length}
 use Rattle.lines.specs.Ends.{endOf, end-none, end-here, end-next}
 use Rattle.lines.proofs.end_of.Statement.{statement}

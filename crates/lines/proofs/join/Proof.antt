@@ -1,3 +1,4 @@
+-- `lines::join`: by whether a carry began the line; then what `keep` ensures.
 use Rattle.common.specs.Words.{needs}
 use Rattle.common.specs.Tests.{tests}
 use Rattle.lines.proofs.join.Statement.{statement}

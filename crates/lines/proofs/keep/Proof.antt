@@ -1,3 +1,4 @@
+-- `lines::keep`: the loop keeps what is stored so far behind the carry.
 use Rattle.common.specs.Words.{needs, _≡_, ap, _∙_, _-_, _≤_, min, length, take, length-set, sets}
 use Rattle.common.specs.Stores.{sets-more}
 use Rattle.lines.specs.Lines.{kept}

@@ -1,3 +1,4 @@
+-- `lines::line_of`: by whether a carry began the line.
 use Rattle.common.specs.Words.{needs, arith, drop, length-take, _≡_, sym, _+_, _-_, min, le-ltb}
 use Rattle.lines.specs.Lines.{kept}
 use Rattle.lines.specs.Held.{cut-take}

@@ -1,3 +1,4 @@
+-- `lines::near`: the loop keeps whether a line feed was among the bytes passed.
 use Rattle.common.specs.Words.{needs, ⊎-elim, _≡_, _∙_, _-_, _≤_}
 use Rattle.lines.specs.Ends.{stride, feedIn, feed-none, feed-here, feed-next}
 use Rattle.lines.proofs.near.Statement.{statement}

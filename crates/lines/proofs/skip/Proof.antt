@@ -1,3 +1,4 @@
+-- `lines::skip`: a stride without a line feed is passed, and the line still ends where it did.
 use Rattle.common.specs.Words.{needs, _≡_, sym, _∙_, _-_, length}
 use Rattle.lines.specs.Ends.{stride, endOf, end-passes}
 use Rattle.lines.proofs.skip.Statement.{statement}

@@ -1,3 +1,4 @@
+-- `mulchpenny::answer_all`: the buffers keep their lengths, the carry fits, and the desk's plan stays sound.
 use borrow.Author.Needs.{needs}
 use native.Mathlib.Omega.{arith}
 use mathlib.Core.Path.{_≡_, refl}

@@ -1,3 +1,4 @@
+-- `mulchpenny::answer_block`: each call of `feed` uses at least one byte (`next-moves`), so the loop ends.
 use borrow.Author.Needs.{needs}
 use native.Mathlib.Omega.{arith}
 use mathlib.Core.Path.{_≡_}

@@ -1,3 +1,4 @@
+-- `mulchpenny::answer_last`: only what lies in the buffer is written.
 use borrow.Author.Needs.{needs}
 use native.Mathlib.Omega.{arith}
 use lib.ListN.{length-take}

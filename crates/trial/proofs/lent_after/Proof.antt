@@ -1,3 +1,4 @@
+-- `trial::lent_after`: the loop stays inside the buffer.
 use borrow.Author.Needs.{needs}
 use lib.ListN.{length}
 use Prim.Native.Nat.{_-_, _≤_}

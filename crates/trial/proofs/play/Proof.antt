@@ -1,3 +1,4 @@
+-- `trial::play`: the line lies inside the text, and the lent part inside the buffer.
 use borrow.Author.Needs.{needs}
 use native.Mathlib.Omega.{arith}
 use lib.ListN.{length, length-take}

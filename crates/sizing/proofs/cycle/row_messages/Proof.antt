@@ -1,3 +1,4 @@
+-- `cycle::row_messages`: by whether the row sends.
 use Rattle.common.specs.Words.{needs}
 use Rattle.sizing.proofs.cycle.row_messages.Statement.{statement}
 use Rattle.sizing.proofs.cycle.row_messages.Tie as tie

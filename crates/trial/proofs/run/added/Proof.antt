@@ -1,3 +1,4 @@
+-- `run::added`: remainders are small, so nothing overflows.
 use native.Mathlib.Nat.{lt-of-le-of-lt, mul-le-mul}
 use borrow.Author.Needs.{needs}
 use native.Mathlib.Omega.{arith}

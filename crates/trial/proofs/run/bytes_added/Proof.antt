@@ -1,3 +1,4 @@
+-- `run::bytes_added`: the loop stays inside the memory.
 use borrow.Author.Needs.{needs}
 use native.Mathlib.Omega.{arith}
 use lib.ListN.{length}

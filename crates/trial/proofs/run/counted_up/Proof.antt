@@ -1,3 +1,4 @@
+-- `run::counted_up`: the loop stays inside the array, and no sum overflows.
 use borrow.Author.Needs.{needs}
 use lib.ListN.{length}
 use Prim.Native.Nat.{_-_, _≤_}

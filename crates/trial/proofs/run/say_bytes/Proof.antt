@@ -1,3 +1,4 @@
+-- `run::say_bytes`: the loop stays inside the bytes.
 use borrow.Author.Needs.{needs}
 use native.Mathlib.Omega.{arith}
 use lib.ListN.{length}

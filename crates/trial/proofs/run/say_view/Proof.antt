@@ -1,3 +1,4 @@
+-- `run::say_view`: the filler that is asked for lies inside the array.
 use native.Mathlib.Omega.{arith}
 use lib.ListN.{length-take}
 use borrow.Author.Needs.{needs}

@@ -1,3 +1,4 @@
+-- `run::send`: the payload that is asked for lies inside the array.
 use native.Mathlib.Omega.{arith}
 use lib.ListN.{length-take}
 use borrow.Author.Needs.{needs}

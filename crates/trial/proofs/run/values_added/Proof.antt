@@ -1,3 +1,4 @@
+-- `run::values_added`: the loop stays inside the values.
 use borrow.Author.Needs.{needs}
 use lib.ListN.{length}
 use Prim.Native.Nat.{_-_, _≤_}

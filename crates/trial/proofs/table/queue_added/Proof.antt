@@ -1,3 +1,4 @@
+-- `table::queue_added`: queue and task lie inside the table.
 use borrow.Author.Needs.{needs}
 use Prim.Native.Nat.{_-_, _≤_, _<_}
 use Rattle.trial.proofs.table.queue_added.Statement.{statement}

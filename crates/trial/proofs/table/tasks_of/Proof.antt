@@ -1,3 +1,4 @@
+-- `table::tasks_of`: the loop stays inside the columns.
 use borrow.Author.Needs.{needs}
 use Prim.Native.Nat.{_-_, _≤_}
 use Rattle.trial.proofs.table.tasks_of.Statement.{statement}

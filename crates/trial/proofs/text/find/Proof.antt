@@ -1,3 +1,4 @@
+-- `text::find`: the loop stays inside the line.
 use borrow.Author.Needs.{needs}
 use lib.ListN.{length}
 use Prim.Native.Nat.{_-_, _≤_}
