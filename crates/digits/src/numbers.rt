@@ -23,7 +23,7 @@ pub fn value_at(bytes: &[u8], at: usize, width: usize) -> u64
     n
 }
 
-fn low_byte(n: u64) -> u8
+pub fn low_byte(n: u64) -> u8
     ensures { λ r. ⌜ r ≡ n % 256 ⌝ }
 {
     (n % 256) as u8

@@ -5,7 +5,7 @@ pub mod places; // places.rt: which slot is a message's
 use calendar::Number;
 use calendar::Slot;
 use plan::Plan;
-ghost use Rattle.common.specs.Words.{_≡_, _+_, _%_, _^_, _≤_, _<_, length, sets};
+ghost use Rattle.common.specs.Words.{_≡_, _+_, _^_, _≤_, _<_, length, sets};
 ghost use Rattle.calendar.specs.Calendar.{message};
 ghost use Rattle.plan.specs.Limits.{payloadBytes, slotBytes};
 ghost use Rattle.slots.specs.Slots.{bytesOf, joined, slotAt, numberIn, stored, cleared};
@@ -24,24 +24,18 @@ pub fn clear(memory: &mut [u8], slots: usize)
     }
 }
 
-fn low_byte(x: u64) -> u8
-    ensures { λ r. ⌜ r ≡ x % 256 ⌝ }
-{
-    (x % 256) as u8
-}
-
 fn bytes_of(n: u64) -> [u8; NUMBER_BYTES]
     ensures { λ r. ⌜ r ≡ bytesOf n ⌝ }
 {
     [
-        low_byte(n / 0x100_0000_0000_0000),
-        low_byte(n / 0x1_0000_0000_0000),
-        low_byte(n / 0x100_0000_0000),
-        low_byte(n / 0x1_0000_0000),
-        low_byte(n / 0x100_0000),
-        low_byte(n / 0x1_0000),
-        low_byte(n / 0x100),
-        low_byte(n),
+        digits::numbers::low_byte(n / 0x100_0000_0000_0000),
+        digits::numbers::low_byte(n / 0x1_0000_0000_0000),
+        digits::numbers::low_byte(n / 0x100_0000_0000),
+        digits::numbers::low_byte(n / 0x1_0000_0000),
+        digits::numbers::low_byte(n / 0x100_0000),
+        digits::numbers::low_byte(n / 0x1_0000),
+        digits::numbers::low_byte(n / 0x100),
+        digits::numbers::low_byte(n),
     ]
 }
 

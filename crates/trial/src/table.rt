@@ -146,7 +146,7 @@ fn look_up(plan: Plan, line: &[u8]) {
     }
 }
 
-// The plan after a line.
+// The plan after a line. A line that leaves the plan as it is may ask for a lookup.
 pub fn plan_after(plan: Plan, table: Plan, line: &[u8]) -> Plan {
     let word = letter(line, 0);
     match word {
