@@ -17,35 +17,54 @@ const PATIENCE: Duration = Duration::from_secs(60);
 
 /// Prints the first mismatch, or one line with the counts. The result is the exit code.
 pub fn check(program: &str, sessions: u64, first_seed: u64) -> i32 {
+    match agreement(sessions, first_seed, |seed| compare(program, &session(seed))) {
+        Ok(lines) => println!("agreed: {sessions} sessions, {lines} lines compared"),
+        Err((seed, report)) => {
+            println!("mismatch in the session of seed {seed}\n{report}");
+            return 1;
+        }
+    }
+    0
+}
+
+/// Goes through the seeds with two workers until one of them does not agree. `compare` tells how
+/// much it compared or what is wrong; the result is the sum, or the least such seed and its report.
+pub fn agreement(
+    seeds: u64,
+    first_seed: u64,
+    compare: impl Fn(u64) -> Result<u64, String> + Sync,
+) -> Result<u64, (u64, String)> {
     let next = AtomicU64::new(0);
-    let lines = AtomicU64::new(0);
+    let compared = AtomicU64::new(0);
     let mismatches: Mutex<BTreeMap<u64, String>> = Mutex::new(BTreeMap::new());
     std::thread::scope(|scope| {
         for _ in 0..WORKERS {
             scope.spawn(|| loop {
                 let turn = next.fetch_add(1, Ordering::SeqCst);
-                if turn >= sessions || !mismatches.lock().unwrap().is_empty() {
+                if turn >= seeds || !mismatches.lock().unwrap().is_empty() {
                     return;
                 }
                 let seed = first_seed + turn;
-                let session = session(seed);
-                lines.fetch_add(session.lines.len() as u64, Ordering::SeqCst);
-                if let Err(report) = compare(program, &session) {
-                    mismatches.lock().unwrap().insert(seed, report);
+                match compare(seed) {
+                    Ok(much) => {
+                        compared.fetch_add(much, Ordering::SeqCst);
+                    }
+                    Err(report) => {
+                        mismatches.lock().unwrap().insert(seed, report);
+                    }
                 }
             });
         }
     });
-    if let Some((seed, report)) = mismatches.lock().unwrap().iter().next() {
-        println!("mismatch in the session of seed {seed}\n{report}");
-        return 1;
+    match mismatches.into_inner().unwrap().into_iter().next() {
+        Some(mismatch) => Err(mismatch),
+        None => Ok(compared.into_inner()),
     }
-    println!("agreed: {sessions} sessions, {} lines compared", lines.load(Ordering::SeqCst));
-    0
 }
 
-fn compare(program: &str, session: &Session) -> Result<(), String> {
-    let output = run(program, session.text())?;
+/// How many lines the session has, or the first that is answered in another way.
+fn compare(program: &str, session: &Session) -> Result<u64, String> {
+    let output = run(program, session.text(), Stdio::inherit())?;
     let mut rest: &[u8] = &output;
     let mut console = Console::default();
     for (index, line) in session.lines.iter().enumerate() {
@@ -68,13 +87,18 @@ fn compare(program: &str, session: &Session) -> Result<(), String> {
     if !rest.is_empty() {
         return Err(format!("after the last answer\nwanted: \"\"\nfound:  \"{}\"", shown(rest)));
     }
-    Ok(())
+    Ok(session.lines.len() as u64)
 }
 
-fn run(program: &str, input: Vec<u8>) -> Result<Vec<u8>, String> {
-    let mut child = Command::new(program)
+/// What the program prints for an input; an emulator may stand before it, divided by blanks. Its
+/// standard error goes where `errors` says.
+pub fn run(program: &str, input: Vec<u8>, errors: Stdio) -> Result<Vec<u8>, String> {
+    let mut words = program.split(' ');
+    let mut child = Command::new(words.next().unwrap_or(program))
+        .args(words)
         .stdin(Stdio::piped())
         .stdout(Stdio::piped())
+        .stderr(errors)
         .spawn()
         .map_err(|error| format!("{program} does not start: {error}"))?;
     let mut stdin = child.stdin.take().unwrap();
@@ -102,7 +126,7 @@ fn run(program: &str, input: Vec<u8>) -> Result<Vec<u8>, String> {
     Ok(output)
 }
 
-fn shown(bytes: &[u8]) -> String {
+pub fn shown(bytes: &[u8]) -> String {
     let mut text = bytes[..bytes.len().min(200)].escape_ascii().to_string();
     if bytes.len() > 200 {
         text += &format!(".. ({} bytes)", bytes.len());

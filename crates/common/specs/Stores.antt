@@ -2,7 +2,7 @@
 use Rattle.common.specs.Words.{_≡_, refl, sym, ap, _∙_, List, [], _∷_, _++_, ℕ, zero, suc, _+_, _≤_, _<_, add-zero, not-suc-le-zero}
 use Rattle.common.specs.Words.{le-of-suc-le-suc, add-one, arith, _⊎_, ⊎-elim, length, getD, take, drop, set, length-set, length-take}
 use Rattle.common.specs.Words.{length-drop, sets, length-sets, take-suc, length-take-le, getD-set-same, getD-set-other, getD-take, getD-drop}
-use Rattle.common.specs.Words.{ext-getD}
+use Rattle.common.specs.Words.{ext-getD, drop-cons, _-_}
 
 -- the n elements from index i on
 abbrev pub part : List ℕ → ℕ → ℕ → List ℕ
@@ -62,3 +62,16 @@ part-other vs l i j n apart =
     ∙ ⊎-elim (λ (h : j + n ≤ i). sets-before vs l i (j + k) 0 (omega arith))
     (λ (h : i + length vs ≤ j). sets-after vs l i (j + k) 0 (omega arith)) apart
     ∙ sym (getD-take n (drop j l) k 0 b ∙ getD-drop j l k 0))
+
+-- a part from its first element on, as a loop walks it
+pub part-none : (l : List ℕ) (i : ℕ) → part l i 0 ≡ []
+part-none l i = refl
+
+pub part-cons : (l : List ℕ) (i n : ℕ) → 0 < n → i < length l → part l i n ≡ getD l i 0 ∷ part l (i + 1) (n - 1)
+part-cons l i n h g =
+    let e : n ≡ suc (n - 1) = omega arith in
+    rw (add-one i, drop-cons l i 0 g) (ap (λ (k : ℕ). take k (getD l i 0 ∷ drop (suc i) l)) e)
+
+-- a part that lies inside has its length
+pub part-length : (l : List ℕ) (i e : ℕ) → i ≤ e → e ≤ length l → length (part l i (e - i)) ≡ e - i
+part-length l i e h g = length-take-le (e - i) (drop i l) (simp length-drop (omega arith))

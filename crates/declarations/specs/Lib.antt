@@ -1,0 +1,5 @@
+-- The pages of this crate's definitions and laws.
+pub mod Sections
+pub mod Declarations
+pub mod SectionLaws
+pub mod Laws

@@ -1,0 +1,51 @@
+-- `rows::keep`: the numbers so far stand in their places.
+use Rattle.common.specs.Words.{needs, ℕ, _≡_, refl, sym, ap, _∙_, _+_, _-_, _*_, _≤_, _<_, arith, length, take, sets, length-set, length-sets, take-all, le-leb, lt-leb}
+use Rattle.common.specs.Stores.{sets-more}
+use Rattle.rows.specs.Rows.{store, kept}
+use Rattle.rows.proofs.keep.Statement.{statement}
+use Rattle.rows.proofs.keep.Tie as tie
+
+abbrev Inv-loop : tie.InvT-loop
+Inv-loop rows₀ count row at k₀ rows k = (k ≤ 9) × (length rows ≡ length rows₀) × (rows ≡ sets rows₀ at (take k row)) × (at ≡ 9 * count)
+
+abbrev μ-loop : tie.MeasureT-loop
+μ-loop rows₀ count row at k₀ rows k = 9 - k
+
+returns : tie.Need-returns Inv-loop μ-loop
+unfolding kept
+returns c = let a = c .before .args in rw (lt-leb (9 * a .count + 9) (length (a .rows .now)) (search needs))
+
+loop-holds : tie.Need-loop-holds Inv-loop μ-loop
+unfolding kept
+loop-holds c = (search needs, refl, refl, search needs)
+
+loop-again : tie.Need-loop-again Inv-loop μ-loop
+unfolding kept
+loop-again c =
+    let l = c .before in
+    let a = l .before .before .args in (
+      search needs,
+      simp length-set (l .loop .inv .1),
+      rw (l .loop .inv .2) (sets-more (a .rows .now) (a .t3) (9 * a .count) (l .loop .k) (search needs)),
+      refl,
+    )
+
+same-length : tie.Need-same-length Inv-loop μ-loop
+unfolding kept
+same-length c =
+    c .before .loop .inv .1
+
+returns-2 : tie.Need-returns-2 Inv-loop μ-loop
+unfolding kept
+returns-2 c =
+    let l = c .before in
+    let a = l .before .before .args in
+    let e : l .loop .k ≡ 9 = search needs in
+    let w : take 9 (a .t3) ≡ a .t3 = take-all 9 (a .t3) (search needs) in
+    rw (le-leb (9 * a .count + 9) (length (a .rows .now)) (search needs), l .loop .inv .2, e, w)
+
+pub keep-spec : {M : Type 1} → statement M
+unfolding kept
+keep-spec =
+    tie.close
+    (tie.spec Inv-loop μ-loop returns (λ c. search needs) loop-holds (λ c. search needs) (λ c. search needs) (λ c. search needs) (λ c. search needs) (λ c. search needs) (λ c. search needs) (λ c. search needs) loop-again (λ c. search needs) same-length returns-2)

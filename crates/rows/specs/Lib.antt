@@ -1,0 +1,5 @@
+-- The pages of this crate's definitions and laws.
+pub mod Rows
+pub mod Said
+pub mod States
+pub mod Laws

@@ -1,0 +1,5 @@
+-- The pages of this crate's definitions and laws.
+pub mod Times
+pub mod Sums
+pub mod Laws
+pub mod Examples
