@@ -114,13 +114,13 @@ module _ (s : State) where
 
 -- ## How far they go
 
-type-head-moves : Moves 7 typeHead
+pub type-head-moves : Moves 7 typeHead
 unfolding typeHead maybeExtends
 type-head-moves ts =
     moved-then (moved-then (moves-the THREAD (λ e. omega arith) ts) moves-name)
     (moves-optional (is EXTENDS) (λ us. moved-then (moves-the EXTENDS (λ e. omega arith) us) classifier-moves))
 
-type-end-moves : (k : Token) → Moves 3 (typeEnd k)
+pub type-end-moves : (k : Token) → Moves 3 (typeEnd k)
 unfolding typeEnd
 type-end-moves k ts = moved-then (moved-then (moves-the END (λ e. omega arith) ts) (moves-own k)) (moves-the SEMICOLON (λ e. omega arith))
 
@@ -132,13 +132,13 @@ thread-type-moves ps ts =
     (moves-quiet (typeEnd (typeName (On ts))) (type-end-moves (typeName (On ts)))))
     (moves-put (λ qs. typeRow (typeName (On ts) .start) (parentIn (On ts)) qs))
 
-implementation-head-moves : (word : ℕ) → (word ≡ ENDED → ⊥) → Moves 5 (implementationHead word)
+pub implementation-head-moves : (word : ℕ) → (word ≡ ENDED → ⊥) → Moves 5 (implementationHead word)
 unfolding implementationHead
 implementation-head-moves word n ts =
     moved-then (moved-then (moved-then (moved-then (moved-less 1 (weighs word n) (moves-the word n ts)) (moves-the IMPLEMENTATION (λ e. omega arith))) moves-name)
     (moves-the DOT (λ e. omega arith))) moves-name
 
-implementation-end-moves : (k l : Token) → Moves 5 (implementationEnd k l)
+pub implementation-end-moves : (k l : Token) → Moves 5 (implementationEnd k l)
 unfolding implementationEnd
 implementation-end-moves k l ts =
     moved-then (moved-then (moved-then (moved-then (moves-the END (λ e. omega arith) ts) (moves-own k)) (moves-the DOT (λ e. omega arith))) (moves-own l))

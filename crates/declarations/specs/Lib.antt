@@ -3,3 +3,5 @@ pub mod Sections
 pub mod Declarations
 pub mod SectionLaws
 pub mod Laws
+pub mod Wide
+pub mod Pays

@@ -61,7 +61,7 @@ feature-does o s = does-then-at s (quiet label) (featureOf o (first (s .went) .s
 
 -- ## How far they go
 
-head-moves : Moves 6 portHead
+pub head-moves : Moves 6 portHead
 unfolding portHead
 head-moves ts = moved-then (moved-then (direction-moves ts) port-kind-moves) maybe-classifier-moves
 

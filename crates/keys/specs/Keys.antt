@@ -1,8 +1,9 @@
 -- Keys and what they mean: a name is what is spelled at its place.
-use Rattle.common.specs.Words.{ℕ, _+_, _*_, _%_, Bool, cond, _&&_, List, [], _∷_, eqb, leb, take, drop}
+use Rattle.common.specs.Words.{ℕ, _+_, _*_, _%_, _<_, Bool, cond, _&&_, List, [], _∷_, eqb, leb, take, drop}
 use Rattle.words.specs.Letters.{same}
 use Rattle.tokens.specs.Tokens.{sortOf, run, letter, digit}
 use Rattle.keys.specs.declared.Key.{Key}
+use Rattle.keys.specs.declared.Lanes.{Lanes}
 
 -- the name at a place of a plain text: letters, digits and underscores
 unfoldable pub spelled : List ℕ → ℕ → List ℕ
@@ -35,17 +36,39 @@ sameMeaning a b =
 abbrev pub prime : ℕ
 prime = 2147483647
 
--- one number more
-unfoldable pub stirred : ℕ → ℕ → ℕ
-stirred h n = (h * 742938285 + n % prime + 1) % prime
+abbrev pub lowFactor : ℕ
+lowFactor = 742938285
+
+abbrev pub highFactor : ℕ
+highFactor = 950706376
+
+-- both lanes of a hash are below the prime
+abbrev pub Below : Lanes → Type 0
+Below l = (l .low < prime) × (l .high < prime)
+
+-- one lane with one number more, by a factor; what the other lane has counts with the number
+unfoldable pub turned : ℕ → ℕ → ℕ → ℕ → ℕ
+turned f own other n =
+    let more = other + n % prime in
+    let x = (own * f + more + 1) % prime in
+    (x * x + more) % prime
+
+-- both lanes with one number more
+unfoldable pub stirred : Lanes → ℕ → Lanes
+stirred l n = record { low = turned lowFactor (l .low) (l .high) n; high = turned highFactor (l .high) (l .low) n }
 
 -- one name more; its end counts as a byte 0, so that it matters where one name ends and the next begins
-unfoldable pub named : ℕ → List ℕ → ℕ
-named h [] = stirred h 0
-named h (b ∷ bs) = named (stirred h b) bs
+unfoldable pub named : Lanes → List ℕ → Lanes
+named l [] = stirred l 0
+named l (b ∷ bs) = named (stirred l b) bs
 
+-- all parts of a meaning
+unfoldable pub lanesOf : Meaning → Lanes
+lanesOf m = named (named (named (stirred (stirred (record { low = 0; high = 0 }) (m .sort)) (m .within)) (m .first)) (m .second)) (m .third)
+
+-- two lanes side by side: meanings that have the same number agree in both
 unfoldable pub hashOf : Meaning → ℕ
-hashOf m = named (named (named (stirred (stirred 0 (m .sort)) (m .within)) (m .first)) (m .second)) (m .third)
+hashOf m = lanesOf m .low + prime * lanesOf m .high
 
 -- ## Names byte by byte
 

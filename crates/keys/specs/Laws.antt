@@ -1,10 +1,11 @@
 -- Laws of keys: names are walked byte by byte, and keys that are found the same mean the same.
-use Rattle.common.specs.Words.{ℕ, zero, suc, _+_, _<_, _≤_, arith, add-one, mod-lt, Bool, true, false, cond, _&&_, List, [], _∷_, _≡_, refl, sym, ap, _∙_}
-use Rattle.common.specs.Words.{eqb, leb, eq-eqb, ne-eqb, eqb-true, length, getD, drop-cons, drop-of-length-le, List·getD-eq-default, ⊎-elim}
+use Rattle.common.specs.Words.{ℕ, zero, suc, _+_, _*_, _%_, _<_, _≤_, arith, add-one, Bool, true, false, cond, _&&_, List, [], _∷_, _≡_, refl, sym, ap, _∙_}
+use Rattle.common.specs.Words.{mod-lt, mul-le-mul, eqb, leb, eq-eqb, ne-eqb, eqb-true, length, getD, drop-cons, drop-of-length-le, List·getD-eq-default, ⊎-elim}
 use Rattle.common.specs.Tests.{and-left, and-right, lt-or-le}
 use Rattle.words.specs.Letters.{same, same-eq, same-refl}
 use Rattle.tokens.specs.Tokens.{sortOf, run, letter, digit}
-use Rattle.keys.specs.Keys.{spelled, Meaning, meaning, sameMeaning, prime, stirred, named, nameByte}
+use Rattle.keys.specs.Keys.{spelled, Meaning, meaning, sameMeaning, prime, turned, stirred, named, nameByte}
+use Rattle.keys.specs.declared.Lanes.{Lanes}
 
 -- ## Names byte by byte
 
@@ -99,16 +100,23 @@ means-same a b e = rw e (same-self b)
 
 -- ## Hashes
 
-pub stirred-below : (h n : ℕ) → stirred h n < prime
-unfolding stirred
-stirred-below h n = mod-lt _ (omega arith)
+pub turned-below : (f own other n : ℕ) → turned f own other n < prime
+unfolding turned
+turned-below f own other n = mod-lt _ (omega arith)
+
+-- what a turn multiplies fits
+pub product-below : (h f : ℕ) → h < prime → f < prime → h * f ≤ prime * prime
+product-below h f l g = mul-le-mul {n₁ = h} {m₁ = f} {n₂ = prime} {m₂ = prime} (omega arith) (omega arith)
+
+pub square-below : (x : ℕ) → (x % prime) * (x % prime) ≤ prime * prime
+square-below x = product-below (x % prime) (x % prime) (mod-lt x (omega arith)) (mod-lt x (omega arith))
 
 -- a hash with a name more, by the name's first byte
-pub named-ends : (h : ℕ) (p : List ℕ) (i : ℕ) → nameByte (getD p i 0) ≡ 0 → stirred h 0 ≡ named h (spelled p i)
+pub named-ends : (l : Lanes) (p : List ℕ) (i : ℕ) → nameByte (getD p i 0) ≡ 0 → stirred l 0 ≡ named l (spelled p i)
 unfolding named
-named-ends h p i e = rw (spelled-is p i, e)
+named-ends l p i e = rw (spelled-is p i, e)
 
-pub named-onward : (h : ℕ) (p : List ℕ) (i : ℕ) → (nameByte (getD p i 0) ≡ 0 → ⊥) →
-    named (stirred h (nameByte (getD p i 0))) (spelled p (i + 1)) ≡ named h (spelled p i)
+pub named-onward : (l : Lanes) (p : List ℕ) (i : ℕ) → (nameByte (getD p i 0) ≡ 0 → ⊥) →
+    named (stirred l (nameByte (getD p i 0))) (spelled p (i + 1)) ≡ named l (spelled p i)
 unfolding named
-named-onward h p i n = rw (spelled-is p i, ne-eqb (nameByte (getD p i 0)) 0 n)
+named-onward l p i n = rw (spelled-is p i, ne-eqb (nameByte (getD p i 0)) 0 n)

@@ -4,7 +4,7 @@ use words::byte_at;
 use words::wide;
 ghost use Rattle.common.specs.Words.{_≡_, _<_, getD};
 ghost use Rattle.words.specs.Letters.{same};
-ghost use Rattle.keys.specs.Keys.{spelled, meant, sameMeaning, nameByte, prime, stirred, named, hashOf};
+ghost use Rattle.keys.specs.Keys.{spelled, meant, sameMeaning, nameByte, prime, Below, turned, stirred, named, hashOf};
 
 pub struct Key {
     pub sort: usize,
@@ -14,10 +14,19 @@ pub struct Key {
     pub third: usize,
 }
 
-// The modulus of the hash, a prime below 2^31, and what each turn multiplies by: products of the two fit.
+// A hash that grows with each number: two lanes.
+struct Lanes {
+    low: usize,
+    high: usize,
+}
+
+// The modulus of the lanes, a prime below 2^31, and what each turn of a lane multiplies by, another number in each lane: products of two
+// numbers below the prime fit.
 const PRIME: usize = 2_147_483_647;
 
-const FACTOR: usize = 742_938_285;
+const LOW_FACTOR: usize = 742_938_285;
+
+const HIGH_FACTOR: usize = 950_706_376;
 
 // A byte that can stand in a name, 0 for any other.
 fn name_byte(b: u8) -> u8
@@ -90,38 +99,53 @@ pub fn same_key(text: &[u8], a: Key, b: Key) -> bool
     same_name(text, a.third, b.third)
 }
 
-// A hash with one number more.
-fn stir(hash: usize, n: usize) -> usize
-    requires { ⌜ hash < prime ⌝ }
-    ensures { λ r. ⌜ (r ≡ stirred hash n) × (r < prime) ⌝ }
+// One lane with one number more. It is squared: a lane that were a sum over the bytes could be shared by reckoning.
+fn turn(own: usize, other: usize, n: usize, factor: usize) -> usize
+    requires { ⌜ (own < prime) × (other < prime) × (factor < prime) ⌝ }
+    ensures { λ r. ⌜ (r ≡ turned factor own other n) × (r < prime) ⌝ }
 {
-    (hash * FACTOR + n % PRIME + 1) % PRIME
+    let more = other + n % PRIME;
+    let x = (own * factor + more + 1) % PRIME;
+    (x * x + more) % PRIME
 }
 
-// A hash with one name more.
-fn stir_name(text: &[u8], at: usize, hash: usize) -> usize
-    requires { ⌜ hash < prime ⌝ }
-    ensures { λ r. ⌜ (r ≡ named hash (spelled (now (text .entry)) at)) × (r < prime) ⌝ }
+// Both lanes with one number more. Each takes in the other: names that share one lane would soon share another that runs by itself.
+fn stir(lanes: Lanes, n: usize) -> Lanes
+    requires { ⌜ Below lanes ⌝ }
+    ensures { λ r. ⌜ (r ≡ stirred lanes n) × Below r ⌝ }
 {
-    let mut h = hash;
+    Lanes {
+        low: turn(lanes.low, lanes.high, n, LOW_FACTOR),
+        high: turn(lanes.high, lanes.low, n, HIGH_FACTOR),
+    }
+}
+
+// Both lanes with one name more.
+fn stir_name(text: &[u8], at: usize, lanes: Lanes) -> Lanes
+    requires { ⌜ Below lanes ⌝ }
+    ensures { λ r. ⌜ (r ≡ named lanes (spelled (now (text .entry)) at)) × Below r ⌝ }
+{
+    let mut l = lanes;
     let mut i = at;
     while i < text.len() {
         let byte = name_byte(text[i]);
         if byte == 0 {
-            return stir(h, 0);
+            return stir(l, 0);
         }
-        h = stir(h, wide(byte));
+        l = stir(l, wide(byte));
         i += 1;
     }
-    stir(h, 0)
+    stir(l, 0)
 }
 
-// A number for a key, the same for keys that are the same, whose low bits differ for most that are not.
+// A number for a key, the same for keys that are the same, whose low bits differ for most that are not. By trying, a pair that shares it is
+// found among about 2^31 keys; one who knows how it is reckoned and spends enough on it can still make such keys.
 pub fn hash_of(text: &[u8], key: Key) -> usize
     ensures { λ r. ⌜ r ≡ hashOf (meant (now (text .entry)) key) ⌝ }
 {
-    let numbers = stir(stir(0, key.sort), key.within);
+    let numbers = stir(stir(Lanes { low: 0, high: 0 }, key.sort), key.within);
     let one = stir_name(text, key.first, numbers);
     let two = stir_name(text, key.second, one);
-    stir_name(text, key.third, two)
+    let all = stir_name(text, key.third, two);
+    all.low + PRIME * all.high
 }

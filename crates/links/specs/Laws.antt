@@ -90,7 +90,7 @@ connection-does p s =
 
 -- ## How far they go
 
-ends-moves : Moves 8 (λ us. ends (On us))
+pub ends-moves : Moves 8 (λ us. ends (On us))
 unfolding ends
 ends-moves ts = moved-then (moved-then (moved-then (link-kind-moves ts) place-moves) arrow-moves) place-moves
 

@@ -3,3 +3,5 @@ pub mod Rows
 pub mod Said
 pub mod States
 pub mod Laws
+pub mod Wide
+pub mod Pays

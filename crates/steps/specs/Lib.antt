@@ -5,3 +5,4 @@ pub mod Steps
 pub mod Lifted
 pub mod Spotted
 pub mod Laws
+pub mod Weights

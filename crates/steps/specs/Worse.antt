@@ -62,7 +62,7 @@ before-of b a (n, h) = rw (ne-eqb (b .number) 0 (λ (e : b .number ≡ 0). omega
         (⊎-elim (λ (l : b .place < a .place). rw (lt-ltb (b .place) (a .place) l))
         (λ (e : (b .place ≡ a .place) × (b .number < a .number)). rw (e .0, le-ltb (a .place) (a .place) (omega arith), lt-ltb (b .number) (a .number) (e .1)))) h)
 
-before-trans : (c b a : Fault) → Before c b → Before b a → Before c a
+pub before-trans : (c b a : Fault) → Before c b → Before b a → Before c a
 before-trans c b a (n, h) (m, g) = (n, go h g)
   where
     go : (b .number ≡ 0) ⊎ ((c .place < b .place) ⊎ ((c .place ≡ b .place) × (c .number < b .number))) →
@@ -76,7 +76,7 @@ before-trans c b a (n, h) (m, g) = (n, go h g)
     go (inr (inr e)) (inr (inr f)) = inr (inr (omega (arith, e .0, f .0), omega (arith, e .1, f .1)))
 
 -- what lies before a lies before b, or b lies before a
-before-between : (c b a : Fault) → Before c a → Before c b ⊎ Before b a
+pub before-between : (c b a : Fault) → Before c a → Before c b ⊎ Before b a
 before-between c b a (n, h) = one (lt-or-le 0 (b .number))
   where
     three : 0 < b .number → b .place ≤ c .place → (c .place < a .place) ⊎ ((c .place ≡ a .place) × (c .number < a .number)) → Before c b ⊎ Before b a

@@ -1,0 +1,339 @@
+// The table of a text without a fault: a row for each thread in text order, and a queue for each receiving port in the order of the first
+// connection to it.
+use index::CONNECTED;
+use index::QUEUED;
+use index::find;
+use index::number_of;
+use keys::Key;
+use plan::Plan;
+use ways::cell;
+use ways::property_of;
+use ways::thread_named;
+ghost use Rattle.common.specs.Words.{_≡_, _*_, _<_, _≤_, _++_, _∷_, [], _&&_, List, ℕ, suc, eqb, length};
+ghost use Rattle.common.specs.Table.{table};
+ghost use Rattle.rows.specs.Rows.{rowWords, aLink};
+ghost use Rattle.index.specs.Index.{rowsIn, Indexed};
+ghost use Rattle.ways.specs.Ways.{cell, Known};
+ghost use Rattle.verdict.specs.Verdict.{isFirst};
+ghost use Rattle.plan.specs.Limits.{taskLimit, queueLimit, cellLimit};
+ghost use Rattle.kit.specs.Kit.{threadsOf, queuesOf, chosen, ticks, timeOf, position, receiverOf, joins, atOr, sendsAt, tableOf};
+
+// What planning takes. Where there are more threads or queues than a plan has room for, the counts still are theirs.
+pub struct Table {
+    pub tasks: usize,
+    pub queues: usize,
+    pub period: [u64; Plan::TASKS],
+    pub deadline: [u64; Plan::TASKS],
+    pub receiver: [usize; Plan::QUEUES],
+    // task i sends into queue q: entry q * TASKS + i
+    pub sends: [bool; Plan::CELLS],
+}
+
+// How many rows were chosen, and the first of them.
+struct Chosen {
+    count: usize,
+    rows: [usize; Plan::TASKS],
+}
+
+const THREAD: usize = 5;
+
+const LINK: usize = 6;
+
+const CONNECTION: usize = 7;
+
+// The columns of a thread's times.
+const PERIOD: usize = 5;
+
+const DEADLINE: usize = 6;
+
+const NONE_CHOSEN: Chosen = Chosen {
+    count: 0,
+    rows: [0; Plan::TASKS],
+};
+
+// One row more.
+fn more(before: Chosen, k: usize) -> Chosen
+    requires { ⌜ before .count < 0x8000_0000 ⌝ }
+    ensures { λ r. ⌜ ((ks : List ℕ) → before ≡ chosen ks → r ≡ chosen (ks ++ (k ∷ []))) ⌝ }
+{
+    let mut rows = before.rows;
+    let count = before.count;
+    if count < Plan::TASKS {
+        rows[count] = k;
+    }
+    Chosen {
+        count: count + 1,
+        rows,
+    }
+}
+
+// The threads, in text order.
+fn threads(rows: &[usize], count: usize) -> Chosen
+    requires { ⌜ (rowWords * count ≤ length (now rows)) × (count < 0x8000_0000) ⌝ }
+    ensures { λ r. ⌜ r ≡ chosen (threadsOf (rowsIn count (now (rows .entry)))) ⌝ }
+{
+    let mut found = NONE_CHOSEN;
+    for k in 0..count {
+        if cell(rows, count, k, 0) == THREAD {
+            found = more(found, k);
+        }
+    }
+    found
+}
+
+// Whether row k is the first connection to its queue.
+fn is_queue(text: &[u8], rows: &[usize], queued: &[u32], count: usize, k: usize) -> bool
+    requires { ⌜ Indexed (now text) 2 (now rows) (now queued) count × (k < count) ⌝ }
+    ensures { λ r. ⌜ r ≡ (eqb (cell (rowsIn count (now (rows .entry))) k 0) aLink && isFirst (now (text .entry)) 2 (rowsIn count (now (rows .entry))) k) ⌝ }
+{
+    if cell(rows, count, k, 0) != LINK {
+        return false;
+    }
+    number_of(text, rows, queued, QUEUED, count, k) == k + 1
+}
+
+// The first connection to each queue.
+fn queues(text: &[u8], rows: &[usize], queued: &[u32], count: usize) -> Chosen
+    requires { ⌜ Indexed (now text) 2 (now rows) (now queued) count ⌝ }
+    ensures { λ r. ⌜ r ≡ chosen (queuesOf (now (text .entry)) (rowsIn count (now (rows .entry)))) ⌝ }
+{
+    let mut found = NONE_CHOSEN;
+    for k in 0..count {
+        if is_queue(text, rows, queued, count, k) {
+            found = more(found, k);
+        }
+    }
+    found
+}
+
+// A time in ticks, of what a column holds.
+fn ticks(time: usize) -> u64
+    ensures { λ r. ⌜ r ≡ ticks time ⌝ }
+{
+    if time < 2 {
+        return 0;
+    }
+    (time - 2) as u64
+}
+
+// A time of thread k by its column, or else its Period.
+fn time(
+    text: &[u8],
+    rows: &[usize],
+    declared: &[u32],
+    types: &[u32],
+    count: usize,
+    k: usize,
+    c: usize,
+) -> u64
+    requires { ⌜ Known (now text) (now rows) (now declared) (now types) count × (k < count) × (c < rowWords) ⌝ }
+    ensures { λ r. ⌜ r ≡ timeOf (now (text .entry)) (rowsIn count (now (rows .entry))) c k ⌝ }
+{
+    let own = property_of(text, rows, declared, types, count, k, c);
+    if own == 0 {
+        return ticks(property_of(text, rows, declared, types, count, k, PERIOD));
+    }
+    ticks(own)
+}
+
+// Of task i, where there are so many.
+fn time_at(
+    text: &[u8],
+    rows: &[usize],
+    declared: &[u32],
+    types: &[u32],
+    count: usize,
+    threads: Chosen,
+    i: usize,
+    c: usize,
+) -> u64
+    requires { ⌜ Known (now text) (now rows) (now declared) (now types) count × (threads ≡ chosen (threadsOf (rowsIn count (now rows))))
+        × (i < taskLimit) × (c < rowWords) ⌝ }
+    ensures { λ r. ⌜ r ≡ atOr (threadsOf (rowsIn count (now (rows .entry)))) (timeOf (now (text .entry)) (rowsIn count (now (rows .entry))) c) 0 i ⌝ }
+{
+    let first = threads.rows;
+    if i < threads.count {
+        return time(text, rows, declared, types, count, first[i], c);
+    }
+    0
+}
+
+fn times(
+    text: &[u8],
+    rows: &[usize],
+    declared: &[u32],
+    types: &[u32],
+    count: usize,
+    threads: Chosen,
+    c: usize,
+) -> [u64; Plan::TASKS]
+    requires { ⌜ Known (now text) (now rows) (now declared) (now types) count × (threads ≡ chosen (threadsOf (rowsIn count (now rows)))) × (c < rowWords) ⌝ }
+    ensures { λ r. ⌜ r ≡ table (atOr (threadsOf (rowsIn count (now (rows .entry)))) (timeOf (now (text .entry)) (rowsIn count (now (rows .entry))) c) 0) taskLimit ⌝ }
+{
+    let mut out = [0u64; Plan::TASKS];
+    for i in 0..Plan::TASKS {
+        out[i] = time_at(text, rows, declared, types, count, threads, i, c);
+    }
+    out
+}
+
+// Whether row k has this number, counted from 1.
+fn is_number(k: usize, number: usize) -> bool
+    ensures { λ r. ⌜ r ≡ eqb (suc k) number ⌝ }
+{
+    if number == 0 {
+        return false;
+    }
+    k == number - 1
+}
+
+// Where a row stands among the first that were chosen, by its number; behind them where it does not.
+fn position(number: usize, rows: [usize; Plan::TASKS]) -> usize
+    ensures { λ r. ⌜ r ≡ position number rows ⌝ }
+{
+    for i in 0..Plan::TASKS {
+        if is_number(rows[i], number) {
+            return i;
+        }
+    }
+    Plan::TASKS
+}
+
+// The task that receives from queue j, where there are so many.
+fn receiver_at(
+    text: &[u8],
+    rows: &[usize],
+    declared: &[u32],
+    count: usize,
+    threads: Chosen,
+    queues: Chosen,
+    j: usize,
+) -> usize
+    requires { ⌜ Indexed (now text) 0 (now rows) (now declared) count × (threads ≡ chosen (threadsOf (rowsIn count (now rows))))
+        × (queues ≡ chosen (queuesOf (now text) (rowsIn count (now rows)))) × (j < queueLimit) ⌝ }
+    ensures { λ r. ⌜ r ≡ atOr (queuesOf (now (text .entry)) (rowsIn count (now (rows .entry)))) (receiverOf (now (text .entry)) (rowsIn count (now (rows .entry)))) 0 j ⌝ }
+{
+    let first = queues.rows;
+    if queues.count <= j {
+        return 0;
+    }
+    let process = cell(rows, count, first[j], 1);
+    let name = cell(rows, count, first[j], 6);
+    let tasks = threads.rows;
+    position(
+        thread_named(text, rows, declared, count, process, name),
+        tasks,
+    )
+}
+
+fn receivers(
+    text: &[u8],
+    rows: &[usize],
+    declared: &[u32],
+    count: usize,
+    threads: Chosen,
+    queues: Chosen,
+) -> [usize; Plan::QUEUES]
+    requires { ⌜ Indexed (now text) 0 (now rows) (now declared) count × (threads ≡ chosen (threadsOf (rowsIn count (now rows))))
+        × (queues ≡ chosen (queuesOf (now text) (rowsIn count (now rows)))) ⌝ }
+    ensures { λ r. ⌜ r ≡ table (atOr (queuesOf (now (text .entry)) (rowsIn count (now (rows .entry)))) (receiverOf (now (text .entry)) (rowsIn count (now (rows .entry)))) 0) queueLimit ⌝ }
+{
+    let mut out = [0usize; Plan::QUEUES];
+    for j in 0..Plan::QUEUES {
+        out[j] = receiver_at(text, rows, declared, count, threads, queues, j);
+    }
+    out
+}
+
+// Whether some connection joins thread k with the queue of connection q.
+fn joins(text: &[u8], rows: &[usize], connected: &[u32], count: usize, q: usize, k: usize) -> bool
+    requires { ⌜ Indexed (now text) 1 (now rows) (now connected) count × (q < count) × (k < count) ⌝ }
+    ensures { λ r. ⌜ r ≡ joins (now (text .entry)) (rowsIn count (now (rows .entry))) q k ⌝ }
+{
+    let key = Key {
+        sort: CONNECTION,
+        within: cell(rows, count, q, 1),
+        first: cell(rows, count, k, 2),
+        second: cell(rows, count, q, 6),
+        third: cell(rows, count, q, 7),
+    };
+    find(text, rows, connected, CONNECTED, count, key) != 0
+}
+
+// Whether a task sends into a queue, where there are so many of both.
+fn sends_at(
+    text: &[u8],
+    rows: &[usize],
+    connected: &[u32],
+    count: usize,
+    threads: Chosen,
+    queues: Chosen,
+    c: usize,
+) -> bool
+    requires { ⌜ Indexed (now text) 1 (now rows) (now connected) count × (threads ≡ chosen (threadsOf (rowsIn count (now rows))))
+        × (queues ≡ chosen (queuesOf (now text) (rowsIn count (now rows)))) × (c < cellLimit) ⌝ }
+    ensures { λ r. ⌜ r ≡ sendsAt (now (text .entry)) (rowsIn count (now (rows .entry))) (threadsOf (rowsIn count (now (rows .entry))))
+        (queuesOf (now (text .entry)) (rowsIn count (now (rows .entry)))) c ⌝ }
+{
+    let j = c / Plan::TASKS;
+    let i = c % Plan::TASKS;
+    if queues.count <= j {
+        return false;
+    }
+    if threads.count <= i {
+        return false;
+    }
+    let first = queues.rows;
+    let tasks = threads.rows;
+    joins(text, rows, connected, count, first[j], tasks[i])
+}
+
+fn senders(
+    text: &[u8],
+    rows: &[usize],
+    connected: &[u32],
+    count: usize,
+    threads: Chosen,
+    queues: Chosen,
+) -> [bool; Plan::CELLS]
+    requires { ⌜ Indexed (now text) 1 (now rows) (now connected) count × (threads ≡ chosen (threadsOf (rowsIn count (now rows))))
+        × (queues ≡ chosen (queuesOf (now text) (rowsIn count (now rows)))) ⌝ }
+    ensures { λ r. ⌜ r ≡ table (sendsAt (now (text .entry)) (rowsIn count (now (rows .entry))) (threadsOf (rowsIn count (now (rows .entry))))
+        (queuesOf (now (text .entry)) (rowsIn count (now (rows .entry))))) cellLimit ⌝ }
+{
+    let mut out = [false; Plan::CELLS];
+    for c in 0..Plan::CELLS {
+        out[c] = sends_at(text, rows, connected, count, threads, queues, c);
+    }
+    out
+}
+
+// The table of the rows of a text.
+pub fn make_table(
+    text: &[u8],
+    rows: &[usize],
+    declared: &[u32],
+    connected: &[u32],
+    queued: &[u32],
+    types: &[u32],
+    count: usize,
+) -> Table
+    requires { ⌜ Known (now text) (now rows) (now declared) (now types) count × Indexed (now text) 1 (now rows) (now connected) count
+        × Indexed (now text) 2 (now rows) (now queued) count ⌝ }
+    ensures { λ r. ⌜ r ≡ tableOf (now (text .entry)) (rowsIn count (now (rows .entry))) ⌝ }
+{
+    let tasks = threads(rows, count);
+    let ports = queues(text, rows, queued, count);
+    let period = times(text, rows, declared, types, count, tasks, PERIOD);
+    let deadline = times(text, rows, declared, types, count, tasks, DEADLINE);
+    let receiver = receivers(text, rows, declared, count, tasks, ports);
+    let sends = senders(text, rows, connected, count, tasks, ports);
+    Table {
+        tasks: tasks.count,
+        queues: ports.count,
+        period,
+        deadline,
+        receiver,
+        sends,
+    }
+}

@@ -1,0 +1,7 @@
+-- The pages of this crate's definitions and laws.
+pub mod Reader
+pub mod Kept
+pub mod Laws
+pub mod First
+pub mod Same
+pub mod Unique

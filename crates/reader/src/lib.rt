@@ -1,0 +1,360 @@
+// From an AADL text to its table, and to its plan. A text of any bytes is answered, with any memory that is lent.
+use index::CONNECTED;
+use index::DECLARED;
+use index::QUEUED;
+use index::build;
+use kit::Table;
+use kit::make_table;
+use plain::make_plain;
+use plan::Plan;
+use rows::Reading;
+use steps::Fault;
+use steps::Went;
+use steps::worse;
+use texts::read;
+use verdict::judge;
+use ways::set_types;
+ghost use Rattle.common.specs.Words.{_≡_, _≤_, true, length, min, take};
+ghost use Rattle.steps.specs.Faults.{worst};
+ghost use Rattle.steps.specs.Lifted.{lift};
+ghost use Rattle.index.specs.Index.{rowsIn, Indexed};
+ghost use Rattle.ways.specs.Ways.{Known};
+ghost use Rattle.verdict.specs.Verdict.{judged};
+ghost use Rattle.reader.specs.declared.Answer.the-variants.{Refused};
+ghost use Rattle.reader.specs.Reader.{mostBytes, endFaults, longFaults, numberOf, ruleOf, refusal, noTable, answered, plainText, answerRead, answerPlain, enough, answer, Fitting, Prepared};
+
+// Document 02's refusals, in the order of their numbers, 20 to 24.
+pub enum Rule {
+    Unfit,
+    Unknown,
+    NoTime,
+    TooDeep,
+    Twice,
+}
+
+// The place is the number of bytes before the token. Why is a word for people: what was expected there, or what is wrong.
+pub struct Refusal {
+    pub rule: Rule,
+    pub place: usize,
+    pub why: usize,
+}
+
+// NoRoom is for memory that is too short for some text.
+pub enum Answer {
+    Sound,
+    Refused(Refusal),
+    NoRoom,
+}
+
+// The answer, and the table: that of all zeros where there is none.
+pub struct Read {
+    pub answer: Answer,
+    pub table: Table,
+}
+
+// How much of a text is read, and how much memory is enough for any text.
+pub const MOST_BYTES: usize = 262_144;
+
+pub const ROWS_ROOM: usize = MOST_BYTES;
+
+pub const MOST_ROWS: usize = 29_127;
+
+pub const TREE_ROOM: usize = 58_256;
+
+// For people: the text is too long.
+pub const TOO_LONG: usize = 0x340;
+
+// Document 02's number of a rule.
+pub fn rule_number(rule: Rule) -> u8
+    ensures { λ r. ⌜ r ≡ numberOf rule ⌝ }
+{
+    match rule {
+        Rule::Unfit => 20,
+        Rule::Unknown => 21,
+        Rule::NoTime => 22,
+        Rule::TooDeep => 23,
+        Rule::Twice => 24,
+    }
+}
+
+fn rule_of(number: usize) -> Rule
+    ensures { λ r. ⌜ r ≡ ruleOf number ⌝ }
+{
+    if number <= 20 {
+        return Rule::Unfit;
+    }
+    if number == 21 {
+        return Rule::Unknown;
+    }
+    if number == 22 {
+        return Rule::NoTime;
+    }
+    if number == 23 {
+        return Rule::TooDeep;
+    }
+    Rule::Twice
+}
+
+// The table of all zeros.
+fn no_table() -> Table
+    ensures { λ r. ⌜ r ≡ noTable ⌝ }
+{
+    Table {
+        tasks: 0,
+        queues: 0,
+        period: [0; Plan::TASKS],
+        deadline: [0; Plan::TASKS],
+        receiver: [0; Plan::QUEUES],
+        sends: [false; Plan::CELLS],
+    }
+}
+
+fn refused(fault: Fault) -> Read
+    ensures { λ r. ⌜ r ≡ answered (Refused (refusal fault)) noTable ⌝ }
+{
+    Read {
+        answer: Answer::Refused(Refusal {
+            rule: rule_of(fault.number),
+            place: fault.place,
+            why: fault.why,
+        }),
+        table: no_table(),
+    }
+}
+
+// Builds the dictionaries of the rows.
+fn prepare(
+    text: &[u8],
+    rows: &[usize],
+    declared: &mut [u32],
+    connected: &mut [u32],
+    queued: &mut [u32],
+    types: &mut [u32],
+    count: usize,
+)
+    requires { ⌜ Fitting count (now rows) (now declared) (now connected) (now queued) (now types) ⌝ }
+    ensures { λ _. ⌜ Prepared (now (text .entry)) (now (rows .entry)) (now (declared .exit)) (now (connected .exit)) (now (queued .exit)) (now (types .exit)) count ⌝ }
+{
+    build(text, rows, declared, DECLARED, count);
+    build(text, rows, connected, CONNECTED, count);
+    build(text, rows, queued, QUEUED, count);
+    set_types(text, rows, declared, types, count);
+}
+
+// The least fault so far, with that of a text which is too long.
+fn with_length(fault: Fault, long: bool) -> Fault
+    ensures { λ r. ⌜ r ≡ worst fault (longFaults long) ⌝ }
+{
+    if !long {
+        return fault;
+    }
+    let limit = Fault {
+        number: 20,
+        place: MOST_BYTES,
+        why: TOO_LONG,
+    };
+    worse(fault, limit)
+}
+
+// The least of the faults that were found and those that the judgement finds in a text that was read to its end.
+fn least_fault(
+    text: &[u8],
+    rows: &[usize],
+    declared: &[u32],
+    connected: &[u32],
+    types: &[u32],
+    reading: Reading,
+    fault: Fault,
+    long: bool,
+) -> Fault
+    requires { ⌜ Known (now text) (now rows) (now declared) (now types) (reading .count) × Indexed (now text) 1 (now rows) (now connected) (reading .count) ⌝ }
+    ensures { λ r. ⌜ r ≡ worst fault (endFaults (lift (now (text .entry)) (reading .went)) long
+        (judged (now (text .entry)) (rowsIn (reading .count) (now (rows .entry))))) ⌝ }
+{
+    let went = reading.went;
+    if let Went::Stopped(f) = went {
+        return worse(fault, f);
+    }
+    if long {
+        return fault;
+    }
+    judge(text, rows, declared, connected, types, reading.count, fault)
+}
+
+// The answer to a plain text whose rows were read, with their dictionaries.
+fn answer_prepared(
+    text: &[u8],
+    rows: &[usize],
+    declared: &[u32],
+    connected: &[u32],
+    queued: &[u32],
+    types: &[u32],
+    reading: Reading,
+    long: bool,
+) -> Read
+    requires { ⌜ Prepared (now text) (now rows) (now declared) (now connected) (now queued) (now types) (reading .count) ⌝ }
+    ensures { λ r. ⌜ r ≡ answerRead (now (text .entry)) (now (rows .entry)) reading long ⌝ }
+{
+    let noted = reading.fault;
+    let fault = with_length(noted, long);
+    let least = least_fault(text, rows, declared, connected, types, reading, fault, long);
+    if least.number != 0 {
+        return refused(least);
+    }
+    Read {
+        answer: Answer::Sound,
+        table: make_table(
+            text,
+            rows,
+            declared,
+            connected,
+            queued,
+            types,
+            reading.count,
+        ),
+    }
+}
+
+// The answer to a plain text whose rows were read.
+fn answer_read(
+    text: &[u8],
+    rows: &[usize],
+    declared: &mut [u32],
+    connected: &mut [u32],
+    queued: &mut [u32],
+    types: &mut [u32],
+    reading: Reading,
+    long: bool,
+) -> Read
+    requires { ⌜ Fitting (reading .count) (now rows) (now declared) (now connected) (now queued) (now types) ⌝ }
+    ensures { λ r. ⌜ r ≡ answerRead (now (text .entry)) (now (rows .entry)) reading long ⌝ }
+{
+    prepare(
+        text,
+        rows,
+        declared,
+        connected,
+        queued,
+        types,
+        reading.count,
+    );
+    answer_prepared(
+        text,
+        rows,
+        declared,
+        connected,
+        queued,
+        types,
+        reading,
+        long,
+    )
+}
+
+// How many bytes of a text are read.
+fn bytes_read(bytes: usize) -> usize
+    ensures { λ r. ⌜ (r ≡ min mostBytes bytes) ⌝ }
+{
+    if MOST_BYTES <= bytes {
+        MOST_BYTES
+    } else {
+        bytes
+    }
+}
+
+// The plain text of what is read of a text, and how many bytes it has.
+fn plain_bytes(text: &[u8], plain: &mut [u8]) -> usize
+    requires { ⌜ mostBytes ≤ length (now plain) ⌝ }
+    ensures { λ r. ⌜ (r ≤ mostBytes) × (r ≤ length (now (plain .exit))) × (take r (now (plain .exit)) ≡ plainText (now (text .entry))) ⌝ }
+{
+    let n = bytes_read(text.len());
+    make_plain(&text[..n], &mut plain[..n]);
+    n
+}
+
+// The answer to a plain text.
+fn read_plain(
+    text: &[u8],
+    rows: &mut [usize],
+    declared: &mut [u32],
+    connected: &mut [u32],
+    queued: &mut [u32],
+    types: &mut [u32],
+    long: bool,
+) -> Read
+    requires { ⌜ (length (now text) ≤ mostBytes)
+        × (enough mostBytes (length (now rows)) (length (now declared)) (length (now connected)) (length (now queued)) (length (now types)) ≡ true) ⌝ }
+    ensures { λ r. ⌜ r ≡ answerPlain (now (text .entry)) long ⌝ }
+{
+    let reading = read(text, rows);
+    answer_read(
+        text,
+        rows,
+        declared,
+        connected,
+        queued,
+        types,
+        reading,
+        long,
+    )
+}
+
+// Whether so much lent memory is enough for any text.
+fn is_enough(
+    plain: usize,
+    rows: usize,
+    declared: usize,
+    connected: usize,
+    queued: usize,
+    types: usize,
+) -> bool
+    ensures { λ r. ⌜ r ≡ enough plain rows declared connected queued types ⌝ }
+{
+    if plain < MOST_BYTES {
+        return false;
+    }
+    if rows < ROWS_ROOM {
+        return false;
+    }
+    if declared < TREE_ROOM {
+        return false;
+    }
+    if connected < TREE_ROOM {
+        return false;
+    }
+    if queued < TREE_ROOM {
+        return false;
+    }
+    types >= MOST_ROWS
+}
+
+// The table of a text. What the lent memory holds afterwards means nothing.
+pub fn read_table(
+    text: &[u8],
+    plain: &mut [u8],
+    rows: &mut [usize],
+    declared: &mut [u32],
+    connected: &mut [u32],
+    queued: &mut [u32],
+    types: &mut [u32],
+) -> Read
+    ensures { λ r. ⌜ r ≡ answer (enough (length (now (plain .entry))) (length (now (rows .entry))) (length (now (declared .entry)))
+        (length (now (connected .entry))) (length (now (queued .entry))) (length (now (types .entry)))) (now (text .entry)) ⌝ }
+{
+    let room = is_enough(
+        plain.len(),
+        rows.len(),
+        declared.len(),
+        connected.len(),
+        queued.len(),
+        types.len(),
+    );
+    if !room {
+        return Read {
+            answer: Answer::NoRoom,
+            table: no_table(),
+        };
+    }
+    let long = text.len() > MOST_BYTES;
+    let n = plain_bytes(text, plain);
+    read_plain(&plain[..n], rows, declared, connected, queued, types, long)
+}
