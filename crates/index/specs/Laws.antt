@@ -53,7 +53,7 @@ pub keys-more : (p : List ℕ) (role n : ℕ) (m : List ℕ) →
     keysOf p role (rowsIn (n + 1) m) ≡ keysOf p role (rowsIn n m) ++ (meant p (keyBy role (rowAt m n)) ∷ [])
 keys-more p role n m = rw (rows-more n m) (keys-append p role (rowsIn n m) (rowAt m n))
 
-keys-of-length : (p : List ℕ) (role : ℕ) (rows : List Row) → length (keysOf p role rows) ≡ length rows
+pub keys-of-length : (p : List ℕ) (role : ℕ) (rows : List Row) → length (keysOf p role rows) ≡ length rows
 unfolding keysOf
 keys-of-length p role [] = refl
 keys-of-length p role (row ∷ rows) = ap suc (keys-of-length p role rows)
@@ -61,7 +61,7 @@ keys-of-length p role (row ∷ rows) = ap suc (keys-of-length p role rows)
 pub keys-length : (p : List ℕ) (role n : ℕ) (m : List ℕ) → length (keysOf p role (rowsIn n m)) ≡ n
 keys-length p role n m = keys-of-length p role (rowsIn n m) ∙ rows-length n m
 
-key-of : (p : List ℕ) (role : ℕ) (rows : List Row) (k : ℕ) → k < length rows →
+pub key-of : (p : List ℕ) (role : ℕ) (rows : List Row) (k : ℕ) → k < length rows →
     getD (keysOf p role rows) k nothing ≡ meant p (keyBy role (getD rows k []))
 unfolding keysOf
 key-of p role [] k l = absurd (omega arith)

@@ -8,7 +8,7 @@ use Rattle.steps.specs.declared.Fault.{Fault}
 use Rattle.steps.specs.declared.Went.{Went}
 use Rattle.steps.specs.Faults.{noFault, worse, worst}
 use Rattle.steps.specs.Lifted.{lift}
-use Rattle.rows.specs.Rows.{rowWords, Store, store, keptAll}
+use Rattle.rows.specs.Rows.{rowWords, store, keptAll}
 use Rattle.rows.specs.declared.Reading.{Reading}
 use Rattle.rows.specs.Said.{noProps}
 use Rattle.rows.specs.States.{State, stateOf, does, begun}

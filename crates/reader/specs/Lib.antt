@@ -5,3 +5,4 @@ pub mod Laws
 pub mod First
 pub mod Same
 pub mod Unique
+pub mod Listing

@@ -4,7 +4,7 @@ use Rattle.tokens.specs.Tokens.{Token}
 use Rattle.tokens.specs.Laws.{cases}
 use Rattle.steps.specs.Steps.{Step, On, Stop}
 use Rattle.rows.specs.Rows.{Row, rowWords}
-use Rattle.rows.specs.Said.{Said, said, Rule, quiet, onward, _⨟_, optionally, repeatBy, repeat, put, noProps, apart, adding}
+use Rattle.rows.specs.Said.{Said, Rule, quiet, onward, _⨟_, optionally, repeatBy, repeat, put, noProps, apart, adding}
 
 unfoldable pub wide : List Row → Bool
 wide [] = true

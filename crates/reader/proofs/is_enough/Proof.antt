@@ -1,5 +1,5 @@
 -- `reader::is_enough`.
-use Rattle.common.specs.Words.{needs, le-leb, lt-leb}
+use Rattle.common.specs.Words.{le-leb, lt-leb}
 use Rattle.reader.specs.Reader.{mostBytes, rowsRoom, treeRoom, enough}
 use Rattle.reader.proofs.is_enough.Statement.{statement}
 use Rattle.reader.proofs.is_enough.Tie as tie

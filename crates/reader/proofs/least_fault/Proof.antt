@@ -1,5 +1,5 @@
 -- `reader::least_fault`.
-use Rattle.common.specs.Words.{needs, _∙_, true, false}
+use Rattle.common.specs.Words.{needs, _∙_}
 use Rattle.reader.specs.Laws.{end-stopped, end-long, end-judged}
 use Rattle.reader.proofs.least_fault.Statement.{statement}
 use Rattle.reader.proofs.least_fault.Tie as tie

@@ -1,6 +1,6 @@
 -- `reader::read_table`.
-use Rattle.common.specs.Words.{needs, arith, _≡_, true, sym, ap, _∙_, length, length-take-le, not-true, not-false}
-use Rattle.reader.specs.Reader.{answerPlain, answered}
+use Rattle.common.specs.Words.{needs, true, sym, ap, _∙_, length, length-take-le, not-true, not-false}
+use Rattle.reader.specs.Reader.{answered}
 use Rattle.reader.specs.declared.Answer.the-variants.{NoRoom}
 use Rattle.reader.specs.Laws.{fitting-plain, enough-plain, answer-none, answer-some}
 use Rattle.kit.specs.declared.Table.{Table}

@@ -1,5 +1,5 @@
 -- `reader::rule_of`.
-use Rattle.common.specs.Words.{needs, le-leb, lt-leb, eq-eqb, ne-eqb}
+use Rattle.common.specs.Words.{le-leb, lt-leb, eq-eqb, ne-eqb}
 use Rattle.reader.specs.Reader.{ruleOf}
 use Rattle.reader.proofs.rule_of.Statement.{statement}
 use Rattle.reader.proofs.rule_of.Tie as tie

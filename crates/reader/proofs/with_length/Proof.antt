@@ -1,5 +1,5 @@
 -- `reader::with_length`.
-use Rattle.common.specs.Words.{needs, not-true, not-false, _∙_}
+use Rattle.common.specs.Words.{needs, not-true, not-false}
 use Rattle.steps.specs.Faults.{worst}
 use Rattle.reader.proofs.with_length.Statement.{statement}
 use Rattle.reader.proofs.with_length.Tie as tie
