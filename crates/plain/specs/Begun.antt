@@ -26,7 +26,7 @@ pub begun-comment : (b : ℕ) (bs : List ℕ) → two (b ∷ bs) 0x2d 0x2d ≡ t
 unfolding begun
 begun-comment b bs e = rw e
 
-pub begun-quote : (bs : List ℕ) → begun 0x22 bs ≡ step 0x22 false (stringBy 0 bs)
+pub begun-quote : (bs : List ℕ) → begun 0x22 bs ≡ step 0x22 false (stringBy 0 0 bs)
 unfolding begun two
 begun-quote bs = refl
 

@@ -75,12 +75,12 @@ three-lower bs a b c s r q = rw (two-lower bs a b s r, at-lower bs 2 c q)
 
 -- ## Strings, annexes and comments
 
-string-lower : (n : ℕ) (bs : List ℕ) → stringBy n (map lower bs) ≡ stringBy n bs
+string-lower : (n z : ℕ) (bs : List ℕ) → stringBy n z (map lower bs) ≡ stringBy n z bs
 unfolding stringBy
-string-lower n [] = refl
-string-lower n (b ∷ []) = rw (lower-sign b 0x22 refl)
-string-lower n (b ∷ c ∷ bs) =
-    rw (lower-sign b 0x0a refl, lower-sign b 0x22 refl, lower-sign c 0x22 refl, string-lower (n + 2) bs, string-lower (n + 1) (c ∷ bs))
+string-lower n z [] = refl
+string-lower n z (b ∷ []) = rw (lower-sign b 0x22 refl)
+string-lower n z (b ∷ c ∷ bs) =
+    rw (lower-sign b 0x0a refl, lower-sign b 0x22 refl, lower-sign c 0x22 refl, string-lower (n + 2) (n + 1) bs, string-lower (n + 1) z (c ∷ bs))
 
 close-lower : (n : ℕ) (bs : List ℕ) → closeBy n (map lower bs) ≡ closeBy n bs
 unfolding closeBy
@@ -99,7 +99,7 @@ annex-lower bs = rw (two-lower bs 0x2a 0x2a refl refl, drop-lower bs, close-lowe
 begun-lower : (b : ℕ) (bs : List ℕ) → begun (lower b) (map lower bs) ≡ begun b bs
 unfolding begun
 begun-lower b bs =
-    rw (two-lower (b ∷ bs) 0x2d 0x2d refl refl, lower-sign b 0x22 refl, lower-sign b 0x7b refl, string-lower 0 bs, annex-lower bs, lower-lower b)
+    rw (two-lower (b ∷ bs) 0x2d 0x2d refl refl, lower-sign b 0x22 refl, lower-sign b 0x7b refl, string-lower 0 0 bs, annex-lower bs, lower-lower b)
 
 step-lower : (c : Bool) (n b : ℕ) (bs : List ℕ) → stepOf c n (lower b) (map lower bs) ≡ stepOf c n b bs
 unfolding stepOf

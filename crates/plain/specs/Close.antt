@@ -36,40 +36,44 @@ unfoldable pub endsString : List ℕ → ℕ → Bool
 endsString p i = eqb (getD p i 0) 0x22 && not (eqb (getD p (i + 1) 0) 0x22)
 
 -- what is left, from its first byte on
-string-front : (n b : ℕ) (bs : List ℕ) → stringBy n (b ∷ bs) ≡
-    cond (eqb b 0x0a) 0 (cond (eqb b 0x22) (cond (eqb (getD bs 0 0) 0x22) (stringBy (n + 2) (drop 1 bs)) (n + 1)) (stringBy (n + 1) bs))
+string-front : (n z b : ℕ) (bs : List ℕ) → stringBy n z (b ∷ bs) ≡
+    cond (eqb b 0x0a) z (cond (eqb b 0x22) (cond (eqb (getD bs 0 0) 0x22) (stringBy (n + 2) (n + 1) (drop 1 bs)) (n + 1)) (stringBy (n + 1) z bs))
 unfolding stringBy
-string-front n b [] = go (eqb b 0x0a) refl
+string-front n z b [] = go (eqb b 0x0a) refl
   where
-    go : (t : Bool) → eqb b 0x0a ≡ t → cond (eqb b 0x22) (n + 1) 0 ≡ cond t 0 (cond (eqb b 0x22) (n + 1) 0)
+    go : (t : Bool) → eqb b 0x0a ≡ t → cond (eqb b 0x22) (n + 1) z ≡ cond t z (cond (eqb b 0x22) (n + 1) z)
     go true e = rw (eqb-true b 0x0a e)
     go false e = refl
-string-front n b (c ∷ bs) = refl
+string-front n z b (c ∷ bs) = refl
 
-module _ (p : List ℕ) (n i : ℕ) where
-  pub string-none : length p ≤ i → stringBy n (drop i p) ≡ 0
+-- where a string has ended so far, by a byte that does not end it
+abbrev pub endedBy : ℕ → ℕ → ℕ → ℕ
+endedBy b n z = cond (eqb b 0x22) (n + 1) z
+
+module _ (p : List ℕ) (n z i : ℕ) where
+  pub string-none : length p ≤ i → stringBy n z (drop i p) ≡ z
   unfolding stringBy
   string-none h = rw (drop-of-length-le p {i = i} h)
 
-  pub string-line : i < length p → getD p i 0 ≡ 0x0a → stringBy n (drop i p) ≡ 0
+  pub string-line : i < length p → getD p i 0 ≡ 0x0a → stringBy n z (drop i p) ≡ z
   string-line h e = rw (front p i h, string-front, eq-eqb (getD p i 0) 0x0a e)
 
-  pub string-ends : i < length p → (getD p i 0 ≡ 0x0a → ⊥) → endsString p i ≡ true → stringBy n (drop i p) ≡ n + 1
+  pub string-ends : i < length p → (getD p i 0 ≡ 0x0a → ⊥) → endsString p i ≡ true → stringBy n z (drop i p) ≡ n + 1
   unfolding endsString
   string-ends h l e =
       let q = both (eqb (getD p i 0) 0x22) e in
       rw (front p i h, string-front, ne-eqb (getD p i 0) 0x0a l, q .0, first-at p (i + 1), not-true (eqb (getD p (i + 1) 0) 0x22) (q .1))
 
   pub string-more : i < length p → (getD p i 0 ≡ 0x0a → ⊥) → endsString p i ≡ false →
-      stringBy (n + quoteWidth (getD p i 0)) (drop (i + quoteWidth (getD p i 0)) p) ≡ stringBy n (drop i p)
+      stringBy (n + quoteWidth (getD p i 0)) (endedBy (getD p i 0) n z) (drop (i + quoteWidth (getD p i 0)) p) ≡ stringBy n z (drop i p)
   unfolding endsString
   string-more h l e =
       rw (front p i h, string-front, ne-eqb (getD p i 0) 0x0a l, first-at p (i + 1), drop-drop 1 (i + 1) p)
       (go (eqb (getD p i 0) 0x22) (eqb (getD p (i + 1) 0) 0x22) e)
     where
-      go : (q d : Bool) → (q && not d) ≡ false → stringBy (n + cond q 2 1) (drop (i + cond q 2 1) p)
-          ≡ cond q (cond d (stringBy (n + 2) (drop (i + 1 + 1) p)) (n + 1)) (stringBy (n + 1) (drop (i + 1) p))
-      go true true e = let z : i + 1 + 1 ≡ i + 2 = omega arith in rw z
+      go : (q d : Bool) → (q && not d) ≡ false → stringBy (n + cond q 2 1) (cond q (n + 1) z) (drop (i + cond q 2 1) p)
+          ≡ cond q (cond d (stringBy (n + 2) (n + 1) (drop (i + 1 + 1) p)) (n + 1)) (stringBy (n + 1) z (drop (i + 1) p))
+      go true true e = let y : i + 1 + 1 ≡ i + 2 = omega arith in rw y
       go true false e = absurd (clash refl e)
       go false d e = refl
 

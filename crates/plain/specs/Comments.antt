@@ -183,36 +183,40 @@ scan (b ∷ c ∷ bs) = more (eqb b 0x0a) (eqb b 0x22) (eqb c 0x22) refl refl re
     more false false v e f g two one = byte b e f one
 
 -- what each of them says
-string-ended : (n : ℕ) → stringBy n [] ≡ 0
+string-ended : (n z : ℕ) → stringBy n z [] ≡ z
 unfolding stringBy
-string-ended n = refl
+string-ended n z = refl
 
-string-line : (n : ℕ) (bs : List ℕ) → stringBy n (0x0a ∷ bs) ≡ 0
+string-line : (n z : ℕ) (bs : List ℕ) → stringBy n z (0x0a ∷ bs) ≡ z
 unfolding stringBy
-string-line n [] = refl
-string-line n (b ∷ bs) = refl
+string-line n z [] = refl
+string-line n z (b ∷ bs) = refl
 
-string-quote : (n : ℕ) (bs : List ℕ) → eqb (getD bs 0 0) 0x22 ≡ false → stringBy n (0x22 ∷ bs) ≡ n + 1
+string-quote : (n z : ℕ) (bs : List ℕ) → eqb (getD bs 0 0) 0x22 ≡ false → stringBy n z (0x22 ∷ bs) ≡ n + 1
 unfolding stringBy
-string-quote n [] e = refl
-string-quote n (b ∷ bs) e = rw e
+string-quote n z [] e = refl
+string-quote n z (b ∷ bs) e = rw e
 
-string-doubled : (n : ℕ) (bs : List ℕ) → stringBy n (0x22 ∷ 0x22 ∷ bs) ≡ stringBy (n + 2) bs
+string-doubled : (n z : ℕ) (bs : List ℕ) → stringBy n z (0x22 ∷ 0x22 ∷ bs) ≡ stringBy (n + 2) (n + 1) bs
 unfolding stringBy
-string-doubled n bs = refl
+string-doubled n z bs = refl
 
-string-other : (n b : ℕ) (bs : List ℕ) → eqb b 0x0a ≡ false → eqb b 0x22 ≡ false → stringBy n (b ∷ bs) ≡ stringBy (n + 1) bs
+string-other : (n z b : ℕ) (bs : List ℕ) → eqb b 0x0a ≡ false → eqb b 0x22 ≡ false → stringBy n z (b ∷ bs) ≡ stringBy (n + 1) z bs
 unfolding stringBy
-string-other n b [] e f = rw f
-string-other n b (c ∷ bs) e f = rw (e, f)
+string-other n z b [] e f = rw f
+string-other n z b (c ∷ bs) e f = rw (e, f)
 
--- a string that ends has bytes
-string-far : {bs : List ℕ} (n : ℕ) → Scan bs → 0 < stringBy n bs → n < stringBy n bs
-string-far n ended h = absurd (omega (arith, string-ended n))
-string-far n (line bs) h = absurd (omega (arith, string-line n bs))
-string-far n (single bs e) h = omega (arith, string-quote n bs e)
-string-far n (doubled {bs = bs} v) h = rw (string-doubled n bs) (omega (arith, string-far (n + 2) v (rw (string-doubled n bs) at h)))
-string-far n (byte b {bs = bs} e f v) h = rw (string-other n b bs e f) (omega (arith, string-far (n + 1) v (rw (string-other n b bs e f) at h)))
+-- it ends where it had ended, or behind what was passed
+string-far : {bs : List ℕ} (n z : ℕ) → Scan bs → (stringBy n z bs ≡ z) ⊎ (n < stringBy n z bs)
+string-far n z ended = inl (string-ended n z)
+string-far n z (line bs) = inl (string-line n z bs)
+string-far n z (single bs e) = inr (omega (arith, string-quote n z bs e))
+string-far n z (doubled {bs = bs} v) =
+    inr (rw (string-doubled n z bs) (⊎-elim (λ (e : stringBy (n + 2) (n + 1) bs ≡ n + 1). omega arith) (λ (l : n + 2 < stringBy (n + 2) (n + 1) bs). omega arith)
+    (string-far (n + 2) (n + 1) v)))
+string-far n z (byte b {bs = bs} e f v) =
+    ⊎-elim (λ (g : stringBy (n + 1) z bs ≡ z). inl (string-other n z b bs e f ∙ g))
+    (λ (l : n + 1 < stringBy (n + 1) z bs). inr (rw (string-other n z b bs e f) (omega arith))) (string-far (n + 1) z v)
 
 -- a line's end is kept, and a quote outside of comments
 line-kept : (c : Bool) (m : ℕ) (bs : List ℕ) → blankedBy c m (0x0a ∷ bs) ≡ 0x0a ∷ blankedBy false (stepOf c m 0x0a bs .left) bs
@@ -226,57 +230,53 @@ unfolding blankedBy stepOf begun two
 quote-kept (suc m) bs = refl
 quote-kept zero bs = refl
 
--- two quotes are two blanks in a comment, and two quotes elsewhere
-pair-none : (n : ℕ) (c : Bool) (m : ℕ) (bs : List ℕ) → ((d : Bool) (k : ℕ) → stringBy (n + 2) (blankedBy d k bs) ≡ 0) →
-    stringBy n (blankedBy c m (0x22 ∷ 0x22 ∷ bs)) ≡ 0
-unfolding blankedBy stepOf
-pair-none n false m bs r = rw (quote-kept m (0x22 ∷ bs), quote-kept (stepOf false m 0x22 (0x22 ∷ bs) .left) bs, string-doubled) (r _ _)
-pair-none n true (suc m) bs r = rw (quote-kept m bs, string-doubled) (r _ _)
-pair-none n true zero bs r =
-    let z : n + 1 + 1 ≡ n + 2 = omega arith in
-    string-other n 0x20 _ refl refl ∙ string-other (n + 1) 0x20 _ refl refl ∙ rw z (r true zero)
-
--- what is no string is none still
-string-none : {bs : List ℕ} (n : ℕ) (c : Bool) (m : ℕ) → Scan bs → stringBy n bs ≡ 0 → stringBy n (blankedBy c m bs) ≡ 0
+-- where no quote follows in the line, none does still
+string-open : {bs : List ℕ} (n z : ℕ) (c : Bool) (m : ℕ) → Scan bs → z ≤ n → stringBy n z bs ≡ z → stringBy n z (blankedBy c m bs) ≡ z
 unfolding blankedBy
-string-none n c m ended e = string-ended n
-string-none n c m (line bs) e = rw (line-kept c m bs) (string-line n _)
-string-none n c m (single bs f) e = absurd (omega (arith, string-quote n bs f))
-string-none n c m (doubled {bs = bs} v) e = pair-none n c m bs (λ d k. string-none (n + 2) d k v (rw (string-doubled n bs) at e))
-string-none n c m (byte b {bs = bs} f g v) e =
+string-open n z c m ended l e = string-ended n z
+string-open n z c m (line bs) l e = rw (line-kept c m bs) (string-line n z _)
+string-open n z c m (single bs f) l e = absurd (omega (arith, string-quote n z bs f))
+string-open n z c m (doubled {bs = bs} v) l e =
+    absurd (⊎-elim (λ (g : stringBy (n + 2) (n + 1) bs ≡ n + 1). omega (arith, string-doubled n z bs)) (λ (g : n + 2 < stringBy (n + 2) (n + 1) bs). omega (arith, string-doubled n z bs))
+    (string-far (n + 2) (n + 1) v))
+string-open n z c m (byte b {bs = bs} f g v) l e =
     let s = stepOf c m b bs in
-    string-other n (cond (s .comment) 0x20 b) _ (pick (s .comment) 0x0a refl f) (pick (s .comment) 0x22 refl g)
-    ∙ string-none (n + 1) (s .comment) (s .left) v (rw (string-other n b bs f g) at e)
+    string-other n z (cond (s .comment) 0x20 b) _ (pick (s .comment) 0x0a refl f) (pick (s .comment) 0x22 refl g)
+    ∙ string-open (n + 1) z (s .comment) (s .left) v (omega arith) (rw (string-other n z b bs f g) at e)
   where
     pick : (t : Bool) (k : ℕ) → eqb 0x20 k ≡ false → eqb b k ≡ false → eqb (cond t 0x20 b) k ≡ false
     pick true k e f = e
     pick false k e f = f
 
 -- and a string is one still
-string-kept : {bs : List ℕ} (n : ℕ) → Scan bs → (k : ℕ) → stringBy n bs ≡ k → 0 < k → stringBy n (blankedBy false (k - n) bs) ≡ k
+string-kept : {bs : List ℕ} (n z : ℕ) → Scan bs → (k : ℕ) → stringBy n z bs ≡ k → z ≤ n → z < k → stringBy n z (blankedBy false (k - n) bs) ≡ k
 unfolding blankedBy stepOf
-string-kept n ended k e h = absurd (omega (arith, string-ended n))
-string-kept n (line bs) k e h = absurd (omega (arith, string-line n bs))
-string-kept n (single bs f) k e h =
-    let x : k ≡ n + 1 = sym e ∙ string-quote n bs f in
-    let z : k - n ≡ 1 = omega arith in
-    rw z (string-quote n (blankedBy false 0 bs) (still-false _ (test-blanked false 0 bs 0 0x22 refl) f) ∙ sym x)
-string-kept n (doubled {bs = bs} v) k e h =
-    let x : stringBy (n + 2) bs ≡ k = rw (string-doubled n bs) at e in
-    let far : n + 2 < k = rw x at (string-far (n + 2) v (rw x h)) in
-    let z : k - n ≡ suc (suc (k - (n + 2))) = omega arith in
-    rw (z, string-doubled) (string-kept (n + 2) v k x h)
-string-kept n (byte b {bs = bs} f g v) k e h =
-    let x : stringBy (n + 1) bs ≡ k = rw (string-other n b bs f g) at e in
-    let far : n + 1 < k = rw x at (string-far (n + 1) v (rw x h)) in
-    let z : k - n ≡ suc (k - (n + 1)) = omega arith in
-    rw z (string-other n b _ f g ∙ string-kept (n + 1) v k x h)
+string-kept n z ended k e l h = absurd (omega (arith, string-ended n z))
+string-kept n z (line bs) k e l h = absurd (omega (arith, string-line n z bs))
+string-kept n z (single bs f) k e l h =
+    let x : k ≡ n + 1 = sym e ∙ string-quote n z bs f in
+    let y : k - n ≡ 1 = omega arith in
+    rw y (string-quote n z (blankedBy false 0 bs) (still-false _ (test-blanked false 0 bs 0 0x22 refl) f) ∙ sym x)
+string-kept n z (doubled {bs = bs} v) k e l h =
+    let x : stringBy (n + 2) (n + 1) bs ≡ k = rw (string-doubled n z bs) at e in
+    ⊎-elim (λ (g : stringBy (n + 2) (n + 1) bs ≡ n + 1).
+    let q : k ≡ n + 1 = sym x ∙ g in
+    let y : k - n ≡ suc 0 = omega arith in
+    rw (y, quote-kept 0 bs, string-doubled) (string-open (n + 2) (n + 1) false (stepOf false 0 0x22 bs .left) v (omega arith) g ∙ sym q))
+    (λ (g : n + 2 < stringBy (n + 2) (n + 1) bs).
+    let y : k - n ≡ suc (suc (k - (n + 2))) = omega arith in
+    rw (y, string-doubled) (string-kept (n + 2) (n + 1) v k x (omega arith) (omega arith))) (string-far (n + 2) (n + 1) v)
+string-kept n z (byte b {bs = bs} f g v) k e l h =
+    let x : stringBy (n + 1) z bs ≡ k = rw (string-other n z b bs f g) at e in
+    let far : n + 1 < k = ⊎-elim (λ (q : stringBy (n + 1) z bs ≡ z). absurd (omega arith)) (λ (q : n + 1 < stringBy (n + 1) z bs). omega arith) (string-far (n + 1) z v) in
+    let y : k - n ≡ suc (k - (n + 1)) = omega arith in
+    rw y (string-other n z b _ f g ∙ string-kept (n + 1) z v k x (omega arith) h)
 
-string-same : (bs : List ℕ) → stringBy 0 (blankedBy false (stringBy 0 bs) bs) ≡ stringBy 0 bs
+string-same : (bs : List ℕ) → stringBy 0 0 (blankedBy false (stringBy 0 0 bs) bs) ≡ stringBy 0 0 bs
 string-same bs =
-    ⊎-elim (λ (z : stringBy 0 bs ≡ 0). rw z (string-none 0 false 0 (scan bs) z))
-    (λ (h : 0 < stringBy 0 bs). let z : stringBy 0 bs - 0 ≡ stringBy 0 bs = omega arith in rw z at (string-kept 0 (scan bs) (stringBy 0 bs) refl h))
-    (eq-zero-or-pos (stringBy 0 bs))
+    ⊎-elim (λ (y : stringBy 0 0 bs ≡ 0). rw y (string-open 0 0 false 0 (scan bs) (omega arith) y))
+    (λ (h : 0 < stringBy 0 0 bs). let y : stringBy 0 0 bs - 0 ≡ stringBy 0 0 bs = omega arith in
+    rw y at (string-kept 0 0 (scan bs) (stringBy 0 0 bs) refl (omega arith) h)) (eq-zero-or-pos (stringBy 0 0 bs))
 
 -- ## The plain text
 
@@ -291,7 +291,7 @@ begun-blanked : (b : ℕ) (bs : List ℕ) → Begins b bs → ((c : Bool) (n : �
 unfolding plainBy blankedBy stepOf
 begun-blanked b bs (Begins.comment e) r = rw (begun-comment b bs e, begun-space) (ap (λ (l : List ℕ). 0x20 ∷ l) (r true 0))
 begun-blanked b bs (Begins.quote e) r =
-    rw (e, begun-quote bs, begun-quote (blankedBy false (stringBy 0 bs) bs), string-same bs) (ap (λ (l : List ℕ). 0x22 ∷ l) (r false (stringBy 0 bs)))
+    rw (e, begun-quote bs, begun-quote (blankedBy false (stringBy 0 0 bs) bs), string-same bs) (ap (λ (l : List ℕ). 0x22 ∷ l) (r false (stringBy 0 0 bs)))
 begun-blanked b bs (Begins.annex e) r =
     rw (e, begun-annex bs, begun-annex (blankedBy false (annexRest bs) bs), annex-kept bs (annexRest bs) refl)
     (ap (λ (l : List ℕ). brace (annexRest bs) ∷ l) (r false (annexRest bs)))

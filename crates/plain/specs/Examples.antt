@@ -19,8 +19,8 @@ strings : plainOf (letters "A=>\"b--\"\"C\";--") ≡ letters "a=>\"       ;  "
 unfolding lower two three stringBy closeBy annexRest begun stepOf plainBy markRest plainOf
 strings = refl
 
--- no quote ends a string in the first line; behind a doubled one the second line has none either, but its next two quotes are a string
-quotes : plainOf (letters "A\"B\n\"\"\" C\n") ≡ letters "a\"b\n\"\"  c\n"
+-- no quote ends a string in the first line; in the second none ends one behind the doubled quote, so that the first two are a string
+quotes : plainOf (letters "A\"B\n\"\"\" C\n") ≡ letters "a\"b\n\" \" c\n"
 unfolding lower two three stringBy closeBy annexRest begun stepOf plainBy markRest plainOf
 quotes = refl
 

@@ -16,15 +16,16 @@ two bs a b = eqb (getD bs 0 0) a && eqb (getD bs 1 0) b
 unfoldable pub three : List ℕ → ℕ → ℕ → ℕ → Bool
 three bs a b c = two bs a b && eqb (getD bs 2 0) c
 
--- "string: `"`, any bytes but `"` and LF (`""` stands for a quote), `"`": how many bytes it has behind its first quote, n of them passed;
--- 0 where none begins
-unfoldable pub stringBy : ℕ → List ℕ → ℕ
-stringBy n [] = 0
-stringBy n (b ∷ []) = cond (eqb b 0x22) (n + 1) 0
-stringBy n (b ∷ c ∷ bs) =
-    let doubled = stringBy (n + 2) bs in
-    let more = stringBy (n + 1) (c ∷ bs) in
-    cond (eqb b 0x0a) 0 (cond (eqb b 0x22) (cond (eqb c 0x22) doubled (n + 1)) more)
+-- "string: `"`, any bytes but `"` and LF (`""` stands for a quote), `"`", and "the longest token counts": how many bytes it has behind its
+-- first quote, n of them passed; behind a doubled quote that no other one ends it has ended with the first of the two, z bytes; 0 where none
+-- begins
+unfoldable pub stringBy : ℕ → ℕ → List ℕ → ℕ
+stringBy n z [] = z
+stringBy n z (b ∷ []) = cond (eqb b 0x22) (n + 1) z
+stringBy n z (b ∷ c ∷ bs) =
+    let doubled = stringBy (n + 2) (n + 1) bs in
+    let more = stringBy (n + 1) z (c ∷ bs) in
+    cond (eqb b 0x0a) z (cond (eqb b 0x22) (cond (eqb c 0x22) doubled (n + 1)) more)
 
 -- "up to and with the first `**}`": how many bytes that are, n of them passed; 0 where there is none
 unfoldable pub closeBy : ℕ → List ℕ → ℕ
@@ -46,7 +47,7 @@ brace annexed = cond (eqb annexed 0) 0x7b 0x41
 -- a byte outside of comments, strings and annexes, bs being what follows it
 unfoldable pub begun : ℕ → List ℕ → Step
 begun b bs =
-    let quote = step 0x22 false (stringBy 0 bs) in
+    let quote = step 0x22 false (stringBy 0 0 bs) in
     let annexed = annexRest bs in
     let annex = step (brace annexed) false annexed in
     cond (two (b ∷ bs) 0x2d 0x2d) (step 0x20 true 0)

@@ -3,7 +3,7 @@
 use words::byte_at;
 ghost use Rattle.common.specs.Words.{_≡_, _+_, _-_, _≤_, _<_, length, drop, getD};
 ghost use Rattle.plain.specs.Plain.{lower, two, three, stringBy, closeBy, annexRest, brace, begun, stepOf, markRest, plainOf};
-ghost use Rattle.plain.specs.Close.{quoteWidth, endsString, lastClose};
+ghost use Rattle.plain.specs.Close.{quoteWidth, endsString, endedBy, lastClose};
 
 // A byte of the plain text; whether the next one stands in a comment, and how many more belong to a string, an annex or the mark that a
 // text may begin with.
@@ -66,23 +66,33 @@ fn ends_string(text: &[u8], at: usize) -> bool
     byte_at(text, at + 1) != b'"'
 }
 
-// How many bytes a string has behind its first quote, 0 where none begins: no quote ends it in this line.
+// Where a string has ended so far, by a byte that does not end it: a doubled quote's first one would.
+fn ended_by(b: u8, passed: usize, ended: usize) -> usize
+    requires { ⌜ passed < 0x7fff_ffff_ffff_ffff ⌝ }
+    ensures { λ r. ⌜ r ≡ endedBy b passed ended ⌝ }
+{
+    if b == b'"' { passed + 1 } else { ended }
+}
+
+// How many bytes a string has behind its first quote, 0 where none begins: no quote follows in this line.
 fn string_rest(text: &[u8], at: usize) -> usize
     requires { ⌜ at ≤ length (now text) ⌝ }
-    ensures { λ r. ⌜ r ≡ stringBy 0 (drop at (now (text .entry))) ⌝ }
+    ensures { λ r. ⌜ r ≡ stringBy 0 0 (drop at (now (text .entry))) ⌝ }
 {
     let mut i = at;
+    let mut ended: usize = 0;
     while i < text.len() {
         let b = text[i];
         if b == b'\n' {
-            return 0;
+            return ended;
         }
         if ends_string(text, i) {
             return i + 1 - at;
         }
+        ended = ended_by(b, i - at, ended);
         i += quote_width(b);
     }
-    0
+    ended
 }
 
 // The place behind the first byte of the last `**}`, 0 where there is none.
