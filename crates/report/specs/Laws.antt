@@ -1,0 +1,182 @@
+-- Lines behind lines, masks, and points behind bytes.
+use Rattle.common.specs.Words.{ℕ, zero, suc, _+_, _*_, _^_, _≤_, _<_, min, arith, add-one, Bool, cond, true, false, List, [], _∷_, _++_, append-assoc}
+use Rattle.common.specs.Words.{_≡_, refl, _∙_, sym, ap, length, getD, pow-suc, pow-le-pow-right, zero-add, length-append, sets, take, take-suc, take-all, length-take, eqb, leb, leb-true, leb-false}
+use Rattle.common.specs.Stores.{sets-append}
+use Rattle.plan.specs.Limits.{taskLimit}
+use Rattle.digits.specs.Hex.{digits}
+use Rattle.digits.specs.HexLaws.{digits-length}
+use Rattle.digits.specs.Numbers.{inBytes}
+use Rattle.digits.specs.NumberLaws.{bytes-length}
+use Rattle.frames.specs.Answers.{lineOf}
+use Rattle.frames.specs.Writing.{piece, line-length}
+use Rattle.report.specs.declared.found.Point.{Point}
+use Rattle.report.specs.Lines.{taskLine, queueLine, taskBytes, queueBytes, maskOf, sender, eachTask, eachQueue}
+use Rattle.report.specs.Places.{past, first, behind}
+
+-- ## One line
+
+-- the line feed behind digits
+pub line-at : (bytes out before after : List ℕ) (i j : ℕ) →
+    before ≡ sets out i (digits bytes) → after ≡ sets before j (10 ∷ []) → i + 2 * length bytes ≡ j → after ≡ sets out i (lineOf bytes)
+unfolding lineOf
+line-at bytes out before after i j e f g =
+    let z : i + length (digits bytes) ≡ j = omega (arith, digits-length bytes, g) in
+    f ∙ rw (e, sets-append (digits bytes) (10 ∷ []) out i, z)
+
+pieces : (a b c out o p q : List ℕ) (i j k : ℕ) →
+    o ≡ sets out i (digits a) → p ≡ sets o j (digits b) → q ≡ sets p k (digits c) →
+    i + 2 * length a ≡ j → j + 2 * length b ≡ k → q ≡ sets out i (digits (a ++ (b ++ c)))
+pieces a b c out o p q i j k e f g x y =
+    let l : length (a ++ b) ≡ length a + length b = length-append a b in
+    let two : p ≡ sets out i (digits (a ++ b)) = f ∙ rw e (piece a b out i j x) in
+    rw (← append-assoc a b c) (g ∙ rw two (piece (a ++ b) c out i k (omega (arith, l, x, y))))
+
+-- a line of three pieces, from index i on
+pub three-at : (a b c out o p q after : List ℕ) (i j k l : ℕ) →
+    o ≡ sets out i (digits a) → p ≡ sets o j (digits b) → q ≡ sets p k (digits c) → after ≡ sets q l (10 ∷ []) →
+    i + 2 * length a ≡ j → j + 2 * length b ≡ k → k + 2 * length c ≡ l → after ≡ sets out i (lineOf (a ++ (b ++ c)))
+three-at a b c out o p q after i j k l e f g h x y z =
+    let m : length (b ++ c) ≡ length b + length c = length-append b c in
+    let n : length (a ++ (b ++ c)) ≡ length a + length (b ++ c) = length-append a (b ++ c) in
+    line-at (a ++ (b ++ c)) out q after i l (pieces a b c out o p q i j k e f g x y) h (omega (arith, m, n, x, y, z))
+
+three-length : (a b c : List ℕ) → length (lineOf (a ++ (b ++ c))) ≡ 2 * (length a + (length b + length c)) + 1
+three-length a b c =
+    let m : length (b ++ c) ≡ length b + length c = length-append b c in
+    let n : length (a ++ (b ++ c)) ≡ length a + length (b ++ c) = length-append a (b ++ c) in
+    omega (arith, m, n, line-length (a ++ (b ++ c)))
+
+-- a line of numbers in so many bytes
+pub numbers-length : (i j k x y z : ℕ) → length (lineOf (inBytes i x ++ (inBytes j y ++ inBytes k z))) ≡ 2 * (i + (j + k)) + 1
+numbers-length i j k x y z =
+    omega (arith, three-length (inBytes i x) (inBytes j y) (inBytes k z), bytes-length i x, bytes-length j y, bytes-length k z)
+
+-- ## Lines behind each other
+
+task-length : (period deadline : ℕ) → length (lineOf (taskBytes period deadline)) ≡ taskLine
+unfolding taskBytes
+task-length period deadline = numbers-length 1 2 2 1 period deadline
+
+queue-length : (receiver mask : ℕ) → length (lineOf (queueBytes receiver mask)) ≡ queueLine
+unfolding queueBytes
+queue-length receiver mask = numbers-length 1 1 2 2 receiver mask
+
+pub tasks-length : (period deadline : List ℕ) (n : ℕ) → length (eachTask period deadline n) ≡ taskLine * n
+unfolding eachTask
+tasks-length period deadline zero = refl
+tasks-length period deadline (suc n) =
+    length-append (eachTask period deadline n) (lineOf (taskBytes (getD period n 0) (getD deadline n 0)))
+    ∙ omega (arith, tasks-length period deadline n, task-length (getD period n 0) (getD deadline n 0))
+
+pub queues-length : (receiver : List ℕ) (sends : List Bool) (n : ℕ) → length (eachQueue receiver sends n) ≡ queueLine * n
+unfolding eachQueue
+queues-length receiver sends zero = refl
+queues-length receiver sends (suc n) =
+    length-append (eachQueue receiver sends n) (lineOf (queueBytes (getD receiver n 0) (maskOf (sender sends n) taskLimit)))
+    ∙ omega (arith, queues-length receiver sends n, queue-length (getD receiver n 0) (maskOf (sender sends n) taskLimit))
+
+pub no-tasks : (period deadline l : List ℕ) → l ≡ sets l 0 (eachTask period deadline 0)
+unfolding eachTask
+no-tasks period deadline l = refl
+
+pub no-queues : (receiver : List ℕ) (sends : List Bool) (l : List ℕ) (at : ℕ) → l ≡ sets l at (eachQueue receiver sends 0)
+unfolding eachQueue
+no-queues receiver sends l at = refl
+
+pub tasks-more : (period deadline l : List ℕ) (n : ℕ) →
+    sets (sets l 0 (eachTask period deadline n)) (taskLine * n) (lineOf (taskBytes (getD period n 0) (getD deadline n 0)))
+    ≡ sets l 0 (eachTask period deadline (n + 1))
+unfolding eachTask
+tasks-more period deadline l n =
+    let before = eachTask period deadline n in
+    let line = lineOf (taskBytes (getD period n 0) (getD deadline n 0)) in
+    rw (add-one n, sets-append before line l 0, zero-add (length before), tasks-length period deadline n)
+
+pub queues-more : (receiver : List ℕ) (sends : List Bool) (l : List ℕ) (at n : ℕ) →
+    sets (sets l at (eachQueue receiver sends n)) (at + queueLine * n) (lineOf (queueBytes (getD receiver n 0) (maskOf (sender sends n) taskLimit)))
+    ≡ sets l at (eachQueue receiver sends (n + 1))
+unfolding eachQueue
+queues-more receiver sends l at n =
+    let line = lineOf (queueBytes (getD receiver n 0) (maskOf (sender sends n) taskLimit)) in
+    rw (add-one n, sets-append (eachQueue receiver sends n) line l at, queues-length receiver sends n)
+
+pub table-length : (period deadline receiver : List ℕ) (sends : List Bool) (m n : ℕ) →
+    length (eachTask period deadline m ++ (eachQueue receiver sends n ++ lineOf (0x03 ∷ []))) ≡ taskLine * m + queueLine * n + 3
+table-length period deadline receiver sends m n =
+    let t = eachTask period deadline m in
+    let q = eachQueue receiver sends n in
+    length-append t (q ++ lineOf (0x03 ∷ []))
+    ∙ omega (arith, length-append q (lineOf (0x03 ∷ [])), line-length (0x03 ∷ []), tasks-length period deadline m, queues-length receiver sends n)
+
+-- three runs, each behind the one before
+pub runs : (a b c out o p after : List ℕ) (j k : ℕ) →
+    o ≡ sets out 0 a → p ≡ sets o j b → after ≡ sets p k c → length a ≡ j → j + length b ≡ k → after ≡ sets out 0 (a ++ (b ++ c))
+runs a b c out o p after j k e f g x y =
+    rw (sets-append a (b ++ c) out 0, zero-add (length a), sets-append b c (sets out 0 a) (length a))
+    (g ∙ rw (f, e, ← y, ← x))
+
+-- ## Masks
+
+at-most : (b : Bool) (x : ℕ) → cond b x 0 ≤ x
+at-most true x = omega arith
+at-most false x = omega arith
+
+mask-less : (sends : ℕ → Bool) (n : ℕ) → maskOf sends n < 2 ^ n
+unfolding maskOf
+mask-less sends zero = omega arith
+mask-less sends (suc n) = omega (arith, mask-less sends n, at-most (sends n) (2 ^ n), pow-suc 2 n)
+
+pub bit-fits : (n : ℕ) → n ≤ taskLimit → 2 ^ n ≤ 65536
+bit-fits n h = pow-le-pow-right (omega arith) h
+
+pub mask-more : (sends : ℕ → Bool) (n : ℕ) → maskOf sends n + cond (sends n) (2 ^ n) 0 ≡ maskOf sends (n + 1)
+unfolding maskOf
+mask-more sends n = rw (add-one n)
+
+pub mask-fits : (sends : ℕ → Bool) (n : ℕ) → n < taskLimit → maskOf sends n + cond (sends n) (2 ^ n) 0 < 65536 * 2
+mask-fits sends n h = omega (arith, mask-less sends n, at-most (sends n) (2 ^ n), bit-fits n (omega (arith, h)))
+
+-- ## Points
+
+pub behind-more : (p : Point) (bytes : List ℕ) (b : ℕ) → behind p (bytes ++ (b ∷ [])) ≡ past (behind p bytes) b
+unfolding behind
+behind-more p [] b = refl
+behind-more p (a ∷ bytes) b = behind-more (past p a) bytes b
+
+pub point-more : (text : List ℕ) (i : ℕ) → i < length text → past (behind first (take i text)) (getD text i 0) ≡ behind first (take (i + 1) text)
+point-more text i h = sym (behind-more first (take i text) (getD text i 0)) ∙ rw (add-one i, take-suc text i 0 h)
+
+-- one byte more adds one at most
+past-low : (p : Point) (b n : ℕ) → p .line ≤ n → p .column ≤ n → (past p b .line ≤ n + 1) × (past p b .column ≤ n + 1)
+past-low p b n h k = go (eqb b 0x0a)
+  where
+    either : Bool → Point
+    either t = cond t (record { line = p .line + 1; column = 1 }) (record { line = p .line; column = p .column + 1 })
+
+    go : (t : Bool) → (either t .line ≤ n + 1) × (either t .column ≤ n + 1)
+    go true = (omega (arith, h), omega arith)
+    go false = (omega (arith, h), omega (arith, k))
+
+behind-low : (bytes : List ℕ) (p : Point) (n : ℕ) → p .line ≤ n → p .column ≤ n →
+    (behind p bytes .line ≤ n + length bytes) × (behind p bytes .column ≤ n + length bytes)
+unfolding behind
+behind-low [] p n h k = (omega (arith, h), omega (arith, k))
+behind-low (b ∷ bytes) p n h k =
+    let s = past-low p b n h k in
+    let r = behind-low bytes (past p b) (n + 1) (s .0) (s .1) in
+    (omega (arith, r .0), omega (arith, r .1))
+
+-- neither is more than the bytes passed, and one
+pub point-low : (text : List ℕ) (i : ℕ) → (behind first (take i text) .line ≤ i + 1) × (behind first (take i text) .column ≤ i + 1)
+point-low text i =
+    let r = behind-low (take i text) first 1 (omega arith) (omega arith) in
+    (omega (arith, r .0, length-take i text), omega (arith, r .1, length-take i text))
+
+pub take-least : (n : ℕ) (text : List ℕ) → take (min n (length text)) text ≡ take n text
+take-least n text = go (leb n (length text)) refl
+  where
+    go : (t : Bool) → leb n (length text) ≡ t → take (min n (length text)) text ≡ take n text
+    go true e = let m : min n (length text) ≡ n = omega (arith, leb-true n (length text) e) in ap (λ (k : ℕ). take k text) m
+    go false e =
+        let h = leb-false n (length text) e in
+        take-all (min n (length text)) text (omega (arith, h)) ∙ sym (take-all n text (omega (arith, h)))

@@ -1,0 +1,44 @@
+// What is said of an AADL text: the console's lines of its table, or its refusal as a line of digits and in words.
+mod expected; // expected.rt: what was expected, in words
+mod found; // found.rt: what stands at a place
+pub mod lines; // lines.rt: the lines of digits
+mod planned; // planned.rt: planning's refusals in words
+mod put; // put.rt: bytes behind each other
+
+use expected::put_expected;
+use found::Point;
+use found::point_of;
+use found::put_found;
+pub use planned::say_refused;
+use put::put;
+use put::put_numbered;
+use put::put_rule;
+use reader::Refusal;
+use reader::rule_number;
+ghost use Rattle.common.specs.Words.{_≤_, length};
+
+// Enough for any line in words.
+pub const WORDS_ROOM: usize = 256;
+
+// `line 7, column 12: `
+fn put_point(out: &mut [u8], point: Point) -> usize
+    ensures { λ r. ⌜ r ≤ length (now (out .entry)) ⌝ }
+{
+    let lined = put_numbered(out, 0, b"line ", point.line);
+    let columned = put_numbered(out, lined, b", column ", point.column);
+    put(out, columned, b": ")
+}
+
+// Why the reader refuses a text, as a compiler would say it: the line, and how many bytes it has.
+pub fn say_unread(out: &mut [u8], text: &[u8], refusal: Refusal) -> usize
+    ensures { λ r. ⌜ r ≤ length (now (out .entry)) ⌝ }
+{
+    let place = refusal.place;
+    let why = refusal.why;
+    let pointed = put_point(out, point_of(text, place));
+    let found = put_found(out, pointed, text, place, why);
+    let behind = put(out, found, b", expected ");
+    let expected = put_expected(out, behind, text, place, why);
+    let rule = refusal.rule;
+    put_rule(out, expected, rule_number(rule))
+}

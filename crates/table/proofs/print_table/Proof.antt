@@ -1,0 +1,15 @@
+-- `table::print_table`: only what was written is printed.
+use Rattle.common.specs.Words.{needs, arith, length-take}
+use Rattle.table.proofs.print_table.Statement.{statement}
+use Rattle.table.proofs.print_table.Tie as tie
+
+pub print-table-spec : {M : Type 1} → statement M
+print-table-spec =
+    tie.close
+    (tie.spec
+    (λ c. search needs)
+    (λ c κs. search needs)
+    (λ c. search needs)
+    (λ c. simp length-take (omega arith))
+    (λ c κs. search needs)
+    (λ c. search needs))
