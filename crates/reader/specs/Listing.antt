@@ -1,5 +1,5 @@
 -- Promise 5: Listing 1 of source 000, as printed less its line numbers, gives Table A. The definitions compute it.
-use Rattle.common.specs.Words.{ℕ, true, false, List, [], _∷_, _++_, _≡_, refl, replicate}
+use Rattle.common.specs.Words.{ℕ, true, false, List, [], _∷_, _≡_, refl, replicate}
 use Rattle.words.specs.Letters.{letters}
 use Rattle.kit.specs.declared.Table.{Table}
 use Rattle.reader.specs.declared.Answer.the-variants.{Sound}
@@ -18,7 +18,6 @@ use Rattle.phrases.specs.Phrases.{restKind, rest, scopes, dotted, classifier, j
 use Rattle.phrases.specs.Phrases.{arrow, nothing, sectionKind, skipKind, skipped, label, maybeLabel, maybeClassifier, wordAndRest}
 use Rattle.rows.specs.Rows.{processRow, typeRow, implementationRow, portRow, threadRow, linkRow}
 use Rattle.rows.specs.Said.{optionally, repeatBy, repeat, merged, apart, adding}
-use Rattle.rows.specs.States.{}
 use Rattle.times.specs.Times.{withByte, withBytes, filled, timeOf, time}
 use Rattle.properties.specs.Properties.{namedBy, setOf, propertyBy, propertyAt, readIn, rightBy, form, owned, noteIn, skippedIn, associationIn}
 use Rattle.properties.specs.Properties.{associationsIn, blockIn, maybeBlockIn, noneOr, propertiesIn}

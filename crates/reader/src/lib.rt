@@ -1,4 +1,4 @@
-// From an AADL text to its table, and to its plan. A text of any bytes is answered, with any memory that is lent.
+// From an AADL text to its table. A text of any bytes is answered, with any memory that is lent.
 use index::CONNECTED;
 use index::DECLARED;
 use index::QUEUED;
