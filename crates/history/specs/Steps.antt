@@ -11,9 +11,11 @@ use Rattle.plan.specs.Limits.{lastTick, payloadBytes}
 use Rattle.plan.specs.Plan.{queueAt}
 use Rattle.slots.specs.Slots.{numberIn, stored}
 use Rattle.running.specs.Calls as running
-use Rattle.mailbox.specs.Calls.{lastSent, sendLines, receiveLines, sendAnswer, sendState, sendMemory, look, found, receiveState, sentState, readPast}
-use Rattle.mailbox.specs.Calls.{movedTo, steppedOn, runningNumber, receivingJob, nextNumber, slotIn, slotFor}
-use Rattle.plan.specs.Verdicts.{Passed, Stopped, passed-good, stopped-refused, passed-or-stopped}
+use Rattle.mailbox.specs.Calls.{lastSent, sendLines, receiveLines, sendAnswer, sendState, sendMemory, look, found, receiveState}
+use Rattle.mailbox.specs.Calls.{steppedOn, runningNumber, receivingJob, nextNumber, slotIn, slotFor}
+use Rattle.mailbox.specs.Outcomes.{sentState, readPast, movedTo, state-clear}
+use Rattle.mailbox.specs.Refused.{send-keeps}
+use Rattle.plan.specs.Verdicts.{Passed, Stopped, passed-good, passed-clear, stopped-refused, passed-or-stopped}
 use Rattle.judge.specs.Accepted.{SendTaken, send-passed, send-passes, ReceiveTaken, receive-passed, receive-passes}
 use Rattle.history.specs.History.{Call, send, receive, askNumber, askWayBack, askWindow, askView, World, sendSays, receiveSays, after, Sends}
 use Rattle.history.specs.History.{accepted, reads, readings, Tells, ofMessage, ofGap, Accepted, stores, tells, empty}
@@ -105,14 +107,14 @@ module _ (p : Plan) (w : World) where
   leaves {s} {m} {s′} {m′} e d = ap (λ (x : State). record { state = x; memory = m }) e ∙ ap (λ (y : List ℕ). record { state = s′; memory = y }) d
 
   pub after-send : (q i t : ℕ) (payload : List ℕ) → CanSend p w q i t payload → after p w (send q i t payload) ≡ sentWorld p w q i t payload
-  unfolding after sendState running.sendMemory
+  unfolding after running.sendMemory
   after-send q i t payload h =
       let lines : List Line = sendLines (w .state) p (w .memory) q i t payload in
       let passed : Passed lines = send-passes h in
-      leaves (passed-good lines (λ r. w .state) _ passed) (passed-good lines (λ r. w .memory) _ passed)
+      leaves (state-clear (w .state) p (w .memory) q i t payload (passed-clear lines passed)) (passed-good lines (λ r. w .memory) _ passed)
 
   send-step : (q i t : ℕ) (payload : List ℕ) → Step p w (send q i t payload) (after p w (send q i t payload))
-  unfolding after sendState running.sendMemory running.sendAnswer
+  unfolding after running.sendAnswer
   send-step q i t payload = go (passed-or-stopped (sendLines (w .state) p (w .memory) q i t payload))
     where
       lines : List Line
@@ -123,9 +125,10 @@ module _ (p : Plan) (w : World) where
           let can : CanSend p w q i t payload = send-passed (w .state .tick .0) (lastSent (w .state) q i) p (w .memory) q i t payload h in
           subst (λ (x : World). Step p w (send q i t payload) x) (sym (after-send q i t payload can)) (sends can)
       go (inr h) =
-          subst (λ (x : World). Step p w (send q i t payload) x)
-          (sym (leaves (stopped-refused lines (h .0) (λ r. w .state) _ (h .1)) (stopped-refused lines (h .0) (λ r. w .memory) _ (h .1))))
-          (stays (record { no-send = silent (h .0) (stopped-refused lines (h .0) Sent.Refused _ (h .1)); no-reading = λ filler q k. refl }))
+          let e : sendSays p w q i t payload ≡ Sent.Refused (h .0) = stopped-refused lines (h .0) Sent.Refused _ (h .1) in
+          let k = send-keeps (w .state) p (w .memory) q i t payload (h .0) e in
+          subst (λ (x : World). Step p w (send q i t payload) x) (sym (leaves (k .0) (k .1)))
+          (stays (record { no-send = silent (h .0) e; no-reading = λ filler q k. refl }))
         where
           silent : (r : Refusal) → sendSays p w q i t payload ≡ Sent.Refused r → (q′ n : ℕ) (payload′ : List ℕ) → Sends p w (send q i t payload) q′ n payload′ → ⊥
           silent r e q′ n payload′ (accepted d) = stored-or-refused _ _ r (sym d ∙ e)

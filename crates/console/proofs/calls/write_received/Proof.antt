@@ -1,4 +1,4 @@
--- `console::run::write_received`: a line for each kind of answer; a view is no longer than a payload.
+-- `console::calls::write_received`: a line for each kind of answer; a view is no longer than a payload.
 use Rattle.common.specs.Words.{ℕ, List, [], _∷_, needs}
 use types.Run.{OneOf, miss}
 use denote.Enum.Declared.{tagOf}
@@ -7,9 +7,9 @@ use Rattle.running.proofs.Received.{the-type}
 use Rattle.frames.specs.Answers.{emptyBytes}
 use Rattle.frames.specs.Writing.{Written}
 use Rattle.console.specs.Desk.{receivedBytes}
-use Rattle.console.specs.CallTurns.{view-short, message-line}
-use Rattle.console.proofs.run.write_received.Statement.{statement}
-use Rattle.console.proofs.run.write_received.Tie as tie
+use Rattle.console.specs.CallLines.{view-short, message-line}
+use Rattle.console.proofs.calls.write_received.Statement.{statement}
+use Rattle.console.proofs.calls.write_received.Tie as tie
 
 -- neither a message nor a gap nor a refusal
 empty-line : (a : Received) (m out after : List ℕ) (k : ℕ) → OneOf (1 ∷ 2 ∷ 3 ∷ []) (tagOf the-type a) → OneOf (0 ∷ 2 ∷ 3 ∷ []) (tagOf the-type a) →

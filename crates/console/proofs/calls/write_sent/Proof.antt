@@ -1,7 +1,7 @@
--- `console::run::write_sent`: a line for each kind of answer.
+-- `console::calls::write_sent`: a line for each kind of answer.
 use Rattle.common.specs.Words.{needs}
-use Rattle.console.proofs.run.write_sent.Statement.{statement}
-use Rattle.console.proofs.run.write_sent.Tie as tie
+use Rattle.console.proofs.calls.write_sent.Statement.{statement}
+use Rattle.console.proofs.calls.write_sent.Tie as tie
 
 returns : tie.Need-returns
 returns c = let w = c .before .before in rw (w .before .before .before .answer .given .1) (w .write-stored .ensures)

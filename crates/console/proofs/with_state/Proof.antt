@@ -1,8 +1,8 @@
--- `console::run::with_state`: field by field.
+-- `console::with_state`: field by field.
 use Rattle.common.specs.Words.{refl}
 use Rattle.console.specs.Desk.{withState}
-use Rattle.console.proofs.run.with_state.Statement.{statement}
-use Rattle.console.proofs.run.with_state.Tie as tie
+use Rattle.console.proofs.with_state.Statement.{statement}
+use Rattle.console.proofs.with_state.Tie as tie
 
 returns : tie.Need-returns
 unfolding withState
