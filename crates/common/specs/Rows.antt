@@ -1,21 +1,9 @@
--- Tests over the rows below n: that every row passes, and which row is the first that does not.
+-- Laws of tests over the rows below n: that every row passes, and which row is the first that does not.
 use Rattle.common.specs.Words.{ℕ, zero, suc, _+_, _<_, _≤_, arith, add-one, Bool, true, false, cond, not, _&&_, _⊎_, inl, inr, _↔_, ⊎-elim}
 use Rattle.common.specs.Words.{_≡_, refl, sym, subst, _∙_, ltb, lt-ltb, le-ltb, ltb-true, not-true, not-false}
 use Rattle.common.specs.Tests.{lt-or-le, true-or-false, having, clash, and-left, and-right}
-
--- the test passes at every row below n
-unfoldable pub every : (ℕ → Bool) → ℕ → Bool
-every t zero = true
-every t (suc n) = every t n && t n
-
--- the first row below n that fails the test, and n where all pass
-unfoldable pub firstBad : (ℕ → Bool) → ℕ → ℕ
-firstBad t zero = 0
-firstBad t (suc n) = cond (ltb (firstBad t n) n) (firstBad t n) (cond (t n) (suc n) n)
-
--- the test passes at some row below n
-unfoldable pub some : (ℕ → Bool) → ℕ → Bool
-some t n = ltb (firstBad (λ i. not (t i)) n) n
+unfoldable pub use Rattle.common.specs.Terms.{every, firstBad, some}
+pub use Rattle.common.specs.Terms.{FirstBad}
 
 -- ## Every row
 
@@ -73,12 +61,7 @@ firstBad-found t i (suc n) l e h =
     rw (firstBad-next t n, rw s at e, le-ltb n n (omega arith), rw s at h) (sym s))
     (lt-or-le i n)
 
--- what it says: each row before it passes, and where it lies below n it fails itself
-pub record FirstBad (t : ℕ → Bool) (n b : ℕ) : Type 0 where
-  pub within : b ≤ n
-  pub before : (i : ℕ) → i < b → t i ≡ true
-  pub bad : b < n → t b ≡ false
-
+-- what it says
 pub firstBad-is : (t : ℕ → Bool) (n : ℕ) → FirstBad t n (firstBad t n)
 firstBad-is t zero = rw (firstBad-none t) (record { within = omega arith; before = λ i l. absurd (omega arith); bad = λ l. absurd (omega arith) })
 firstBad-is t (suc n) = go (firstBad-is t n) (lt-or-le (firstBad t n) n) (true-or-false (t n))

@@ -1,22 +1,8 @@
--- Totals over the numbers below n, most often the rows of a table: sums and greatest values.
+-- Laws of totals over the numbers below n, most often the rows of a table: sums and greatest values.
 use Rattle.common.specs.Words.{ℕ, zero, suc, _+_, _-_, _*_, _<_, _≤_, max, arith, add-one, Bool, true, false, _↔_, ⊎-elim, _≡_, refl, subst}
 use Rattle.common.specs.Words.{eqb, eq-eqb, ne-eqb}
 use Rattle.common.specs.Tests.{lt-or-le}
-
--- n where the test passes, else 0
-abbrev pub only : Bool → ℕ → ℕ
-only true n = n
-only false n = 0
-
--- f 0 + f 1 + .. + f (n - 1)
-unfoldable pub sum : (ℕ → ℕ) → ℕ → ℕ
-sum f zero = 0
-sum f (suc n) = sum f n + f n
-
--- the greatest of f 0, f 1, .., f (n - 1), and 0 where there is none
-unfoldable pub most : (ℕ → ℕ) → ℕ → ℕ
-most f zero = 0
-most f (suc n) = max (most f n) (f n)
+unfoldable pub use Rattle.common.specs.Terms.{only, sum, most}
 
 -- `only b`: what has to be shown is shown where b is true
 pub only-le : (b : Bool) (m n : ℕ) → (b ≡ true → m ≤ n) → only b m ≤ only b n

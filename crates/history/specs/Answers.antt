@@ -3,7 +3,8 @@ use Rattle.common.specs.Words.{ℕ, zero, suc, _+_, _/_, _≤_, _<_, arith, div
 use Rattle.common.specs.Words.{subst, _∙_, eqb, length, eqb-true, eqb-false, eq-eqb, le-leb}
 use Rattle.common.specs.Tests.{lt-or-le}
 use Rattle.calendar.specs.Calendar.{message, slot}
-use Rattle.model.specs.Model.{Valid, Sender, receiverPeriod, deadlineOf, number, first, last, jobFor, outdatedAt, senderOf}
+use Rattle.model.specs.Model.{Valid, Sender, receiverPeriod, deadlineOf, number, first, last, senderOf}
+use Rattle.model.specs.Source.{jobFor, outdatedAt}
 use Rattle.model.specs.Window.{last-iff, window-own, window-zero}
 use Rattle.plan.specs.Limits.{lastTick, payloadBytes, slotBytes}
 use Rattle.plan.specs.Plan.{queueAt}

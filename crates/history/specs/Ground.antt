@@ -3,7 +3,8 @@
 use Rattle.common.specs.Words.{ℕ, suc, _+_, _-_, _*_, _/_, _%_, _≤_, _<_, _^_, arith, mod-lt, mul-le-mul-right, div-add-mod', div-lt-iff-lt-mul}
 use Rattle.common.specs.Words.{lt-div-mul-add, ⊎-elim, _≡_}
 use Rattle.common.specs.Tests.{lt-or-le}
-use Rattle.model.specs.Model.{Queue, Valid, Sender, Fit, releaseOf, deadlineOf, number, outdatedAt}
+use Rattle.model.specs.Model.{Queue, Valid, Sender, releaseOf, deadlineOf, number}
+use Rattle.model.specs.Source.{Fit, outdatedAt}
 use Rattle.model.specs.Number.{upTo-le, number-below}
 use Rattle.model.specs.Fit.{fit-above}
 use Rattle.plan.specs.Limits.{lastTick, payloadBytes, slotBytes}

@@ -3,7 +3,8 @@
 use Rattle.common.specs.Words.{ℕ, _+_, _*_, _%_, _≤_, _<_, arith, le-refl, div-mul-le-self, ℕ-discrete, List, _⊎_, inl, inr, ⊎-elim, _≡_, refl, sym}
 use Rattle.common.specs.Words.{ap, subst, _∙_, length, getD, length-set, getD-set-same, getD-set-other}
 use Rattle.common.specs.Tests.{lt-or-le, having}
-use Rattle.model.specs.Model.{Queue, Valid, Sender, Fit, releaseOf, deadlineOf, number, outdatedAt}
+use Rattle.model.specs.Model.{Queue, Valid, Sender, releaseOf, deadlineOf, number}
+use Rattle.model.specs.Source.{Fit, outdatedAt}
 use Rattle.model.specs.Order.{deadline-positive}
 use Rattle.model.specs.Number.{number-inj}
 use Rattle.model.specs.Outdating.{outdated-iff, horizon-back}

@@ -5,7 +5,8 @@ use Rattle.common.specs.Words.{mul-le-mul-right, ℕ-discrete, List, inl, inr, 
 use Rattle.common.specs.Words.{length-replicate, getD-replicate, getD-set-same, getD-set-other, ne-eqb}
 use Rattle.common.specs.Tests.{lt-or-le, having}
 use Rattle.calendar.specs.Calendar.{message}
-use Rattle.model.specs.Model.{Queue, Valid, Sender, receiverPeriod, releaseOf, deadlineOf, number, first, last, jobFor, wantedUntil, outdatedAt, senderOf, hyperperiod}
+use Rattle.model.specs.Model.{Queue, Valid, Sender, receiverPeriod, releaseOf, deadlineOf, number, first, last, wantedUntil, senderOf, hyperperiod}
+use Rattle.model.specs.Source.{jobFor, outdatedAt}
 use Rattle.model.specs.Order.{period-pos}
 use Rattle.model.specs.Number.{number-iff, number-below, number-less}
 use Rattle.model.specs.Outdating.{wanted-pos, wanted-fits, job-from}
@@ -24,19 +25,7 @@ use Rattle.history.specs.Ground.{valid-at}
 use Rattle.history.specs.Invariant.{Shape, held, outdated-late, number-now}
 use Rattle.history.specs.Holds.{shaped}
 use Rattle.history.specs.Short.{Short, periods-fit}
-
--- From a start, sends and receives that are all accepted: message n of queue q is sent, and then a receive reports it as a gap.
-pub record Lost (p : Plan) (q : ℕ) : Type 0 where
-  pub memory : List ℕ
-  pub begins : Begins p memory
-  pub calls : History
-  pub all-accepted : AllAccepted p memory calls
-  pub n : ℕ
-  pub payload : List ℕ
-  pub sent : SentIn p memory calls q n payload
-  pub t : ℕ
-  pub row : ℕ
-  pub told : receiveSays p (world p memory calls) q t ≡ Received.Gap (message n) row
+pub use Rattle.history.specs.Smaller.{Lost}
 
 -- ## Jobs and ticks
 

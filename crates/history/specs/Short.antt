@@ -4,8 +4,9 @@ use Rattle.common.specs.Words.{ℕ, zero, suc, _+_, _-_, _*_, _/_, _≤_, _<_, 
 use Rattle.common.specs.Words.{⊎-elim, _≡_, refl}
 use Rattle.common.specs.Tests.{lt-or-le, having}
 use Rattle.common.specs.Totals.{only, most}
-use Rattle.model.specs.Model.{Queue, Valid, Sender, CommonMultiple, receiverPeriod, releaseOf, deadlineOf, number}
-use Rattle.model.specs.Model.{outdatedAt, need, rowSlots, slotsOver, slots, hyperperiod}
+use Rattle.model.specs.Model.{Queue, Valid, Sender, receiverPeriod, releaseOf, deadlineOf, number}
+use Rattle.model.specs.Model.{need, rowSlots, slotsOver, slots, hyperperiod}
+use Rattle.model.specs.Source.{CommonMultiple, outdatedAt}
 use Rattle.model.specs.Order.{period-pos}
 use Rattle.model.specs.Number.{number-onto}
 use Rattle.model.specs.Fit.{outdated-counts}

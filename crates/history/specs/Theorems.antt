@@ -20,9 +20,8 @@ use Rattle.running.specs.View.{viewOf}
 use Rattle.history.specs.History.{Call, receive, World, History, start, _then_, _⊑_, Begins, world, after, sendSays, receiveSays, history, goOn}
 use Rattle.history.specs.History.{Sends, SentIn, Tells, readBy, numbers, windowNumbers, AllFair, Among, ReadToEnd, Accepted}
 use Rattle.history.specs.Made.{made-fits, loses-one}
-use Rattle.planning.specs.Accepted.{Made}
-use Rattle.history.specs.Resized.{resized}
-use Rattle.history.specs.Least.{Lost}
+use Rattle.planning.specs.Planning.{Made}
+use Rattle.history.specs.Smaller.{resized, Lost}
 use Rattle.history.specs.Lists.{goOn-append, goes-on}
 use Rattle.history.specs.Steps
 use Rattle.history.specs.Holds

@@ -1,26 +1,9 @@
--- The lines of a whole text: the text split at its line feeds, each line cut.
+-- The lines of a whole text are those that feeding gives: the text split at its line feeds, each line cut.
 use Rattle.common.specs.Words.{ℕ, zero, suc, _≤_, arith, Bool, true, false, cond, List, [], _∷_, _++_, map, append-assoc, append-nil, _≡_, refl}
 use Rattle.common.specs.Words.{sym, ap, _∙_, eqb, ne-eqb, length, take, length-take, take-all}
 use Rattle.lines.specs.Lines.{lineFeed, kept, cut, fed, ended}
-
--- the carry goes before the first piece
-abbrev pub begun : List ℕ → List (List ℕ) → List (List ℕ)
-begun c [] = c ∷ []
-begun c (p ∷ ps) = (c ++ p) ∷ ps
-
--- the pieces between the line feeds, one more than there are line feeds
-unfoldable pub pieces : List ℕ → List (List ℕ)
-pieces [] = [] ∷ []
-pieces (b ∷ bs) = cond (eqb b lineFeed) ([] ∷ pieces bs) (begun (b ∷ []) (pieces bs))
-
--- each piece is a line, but for an empty last one: a text that ends with a line feed has no further line, and an empty text has none
-unfoldable pub counted : List (List ℕ) → List (List ℕ)
-counted [] = []
-counted (p ∷ []) = cond (eqb (length p) 0) [] (p ∷ [])
-counted (p ∷ q ∷ qs) = p ∷ counted (q ∷ qs)
-
-unfoldable pub linesOf : List ℕ → List (List ℕ)
-linesOf t = counted (pieces t)
+pub use Rattle.lines.specs.Lines.{begun}
+unfoldable pub use Rattle.lines.specs.Lines.{pieces, counted, linesOf}
 
 -- ## Cutting
 

@@ -1,6 +1,6 @@
 -- The lookups among each other: number and way back invert each other wherever either answers, and a window answers the numbers of the
 -- messages with deadlines after the job's previous release and not after its own.
-use Rattle.common.specs.Words.{ℕ, _-_, _*_, _<_, _≤_, arith, pos-of-ne-zero, zero-mul, false, not, _↔_, _≡_, ltb, ltb-true, ltb-false, lt-ltb}
+use Rattle.common.specs.Words.{ℕ, _-_, _*_, _<_, _≤_, arith, pos-of-ne-zero, zero-mul, true, false, not, _↔_, _≡_, ltb, ltb-true, ltb-false, lt-ltb}
 use Rattle.common.specs.Words.{le-ltb, eqb-false, ne-eqb, not-false}
 use Rattle.common.specs.Tests.{having}
 use Rattle.model.specs.Model.{Sender, receiverPeriod, released, deadlineOf, number, upTo, senderOf, jobOf, first, last}
@@ -133,8 +133,9 @@ module _ (p : Plan) (q : ℕ) where
   -- ## Windows
 
   -- "job 0: 1 and 0", on every plan and queue that is there
-  pub window-job-0 : Counted p q → windowOf p q (job 0) ≡ Window.Numbers (message 1) (message 0)
-  window-job-0 c =
+  pub window-job-0 : soundPlan p ≡ true → q < p .queues → windowOf p q (job 0) ≡ Window.Numbers (message 1) (message 0)
+  window-job-0 s l =
+      let c : Counted p q = record { sound = sound-iff p .0 s; queue = l } in
       having (window-zero (queueAt p q) (usable (c .sound) q (c .queue) .valid))
       (λ w.
       window-answers (job 0) (message 1) (message 0) .1 (record {

@@ -1,7 +1,8 @@
 -- When a size is fit: a test for each message by itself. Every size above a fit one is fit, and 0 is not.
 use Rattle.common.specs.Words.{ℕ, _+_, _-_, _<_, _≤_, arith, lt-of-not-le, not-le-of-lt, _↔_, ⊎-elim}
 use Rattle.common.specs.Tests.{lt-or-le, having}
-use Rattle.model.specs.Model.{Queue, Valid, Sender, Fit, upTo, releaseOf, deadlineOf, number, outdatedAt, horizon, outdated}
+use Rattle.model.specs.Model.{Queue, Valid, Sender, upTo, releaseOf, deadlineOf, number, horizon, outdated}
+use Rattle.model.specs.Source.{Fit, outdatedAt}
 use Rattle.model.specs.Order.{deadline-positive}
 use Rattle.model.specs.Number.{number-iff, number-onto}
 use Rattle.model.specs.Outdating.{outdated-iff, outdated-after}

@@ -4,6 +4,7 @@ use Rattle.common.specs.Words.{eq-zero-or-pos, dvd-refl, dvd-zero, dvd-mod-iff,
 use Rattle.common.specs.Words.{div-add-mod', arith, eq-eqb, ne-eqb, eqb}
 use lib.Arith.{digits-mod}
 use Rattle.model.specs.Model.{euclid, gcd}
+use Rattle.model.specs.Source.{IsGcd}
 
 -- more steps change nothing
 enough : (n m a b : ℕ) → b < n → b < m → euclid n a b ≡ euclid m a b
@@ -27,12 +28,7 @@ gcd-step a b p =
     let f : eqb b 0 ≡ false = ne-eqb b 0 (λ (e : b ≡ 0). omega arith) in
     rw f (enough b (suc (a % b)) b (a % b) l (omega arith))
 
--- it divides both, and what divides both divides it: by Euclid's rule, at most n times
-pub record IsGcd (a b g : ℕ) : Type 0 where
-  pub left : g ∣ a
-  pub right : g ∣ b
-  pub most : (d : ℕ) → d ∣ a → d ∣ b → d ∣ g
-
+-- by Euclid's rule, at most n times
 by-steps : (n a b : ℕ) → b < n → IsGcd a b (gcd a b)
 by-steps zero a b h = absurd (not-suc-le-zero h)
 by-steps (suc n) a b h =

@@ -4,7 +4,8 @@ use Rattle.common.specs.Words.{le-trans, one-mul, mul-comm, mul-assoc, le-mul-o
 use Rattle.common.specs.Words.{dvd-refl, dvd-trans, dvd-mul-right, dvd-mul-left, mul-div-cancel', div-mul-cancel, mul-dvd-mul-left}
 use Rattle.common.specs.Words.{dvd-of-mul-dvd-mul-left, add-one, arith}
 use Rattle.common.specs.Tests.{lt-or-le}
-use Rattle.model.specs.Model.{Queue, Valid, Sender, CommonMultiple, gcd, lcm, multiple, hyperperiod, receiverPeriod}
+use Rattle.model.specs.Model.{Queue, Valid, Sender, gcd, lcm, multiple, hyperperiod, receiverPeriod}
+use Rattle.model.specs.Source.{CommonMultiple}
 use Rattle.model.specs.Gcd.{gcd-is, gcd-scaled}
 use Rattle.model.specs.Order.{period-pos}
 

@@ -3,7 +3,8 @@
 use Rattle.common.specs.Words.{ℕ, suc, _+_, _-_, _*_, _<_, _≤_, arith, ℕ-discrete, Bool, true, false, _↔_, ⊎-elim, _≡_, refl, sym, subst, _∙_, eqb}
 use Rattle.common.specs.Totals.{only, sum, only-le, only-eq, only-most, only-zero, sum-le, sum-bound, sum-ext, sum-add}
 use Rattle.common.specs.Totals.{sum-one, sum-zero, sum-at, only-self, only-other, crossing}
-use Rattle.model.specs.Model.{Queue, Valid, Sender, hasDeadline, deadlineOf, countOf, upTo, dueAt, precedes, followers, number, Before, jobsBefore}
+use Rattle.model.specs.Model.{Queue, Valid, Sender, hasDeadline, deadlineOf, countOf, upTo, dueAt, precedes, followers, number}
+use Rattle.model.specs.Source.{Before, jobsBefore}
 use Rattle.common.specs.Tests.{lt-or-le, true-or-false, having, clash, and-left, and-right}
 use Rattle.common.specs.Rank.{size, rank, rank-less, rank-onto}
 use Rattle.model.specs.Count.{count-mono, count-before, count-le, count-own, count-tick, has-own, has-job}

@@ -6,7 +6,8 @@ use Rattle.common.specs.Tests.{and-left}
 use Rattle.common.specs.Totals.{only, sum, sum-ext, sum-at}
 use Rattle.common.specs.Table.{table, table-at}
 use Rattle.common.specs.Rows.{firstBad, firstBad-is}
-use Rattle.model.specs.Model.{Fit, hyperperiod, slots, equation3}
+use Rattle.model.specs.Model.{hyperperiod, slots}
+use Rattle.model.specs.Source.{Fit, equation3}
 use Rattle.model.specs.Slots.{slots-iff, slots-pos}
 use Rattle.model.specs.Equation3.{slots-bound}
 use Rattle.plan.specs.Limits.{queueLimit, longestHyperperiod, mostSlots}
@@ -20,15 +21,10 @@ use Rattle.plan.specs.declared.refusal.Refusal.{Refusal}
 use Rattle.sizing.specs.Cycle.{cycleShort, messagesFew}
 use Rattle.tables.specs.Table.{tabled}
 use Rattle.planning.specs.Planning.{longQueue, leastSize, leastSizes, sized, refusedPlan, firstLines, tableLines, accepted, tableJudged, planOf}
+pub use Rattle.planning.specs.Planning.{Made}
 use Rattle.planning.specs.TableLaws.{table-checked, long-within, size-at}
 use Rattle.planning.specs.declared.Planned.{Planned}
 use Rattle.planning.specs.declared.Answer.{Answer}
-
--- "a plan we made", as everything above planning needs it
-pub record Made (p : Plan) : Type 0 where
-  pub sound : soundPlan p ≡ true
-  pub least : (q : ℕ) → q < p .queues → sizeAt p q ≡ slots (queueAt p q)
-  pub short : (q : ℕ) → q < p .queues → hyperperiod (queueAt p q) ≤ longestHyperperiod
 
 -- ## A table that has passed rules 1 to 6
 
@@ -131,7 +127,8 @@ module _ (tasks queues : ℕ) (period deadline receiver : List ℕ) (square : Li
 
   -- the rules in document 01's order, as one list: the first line that applies is the answer
   pub plan-lines : planOf tasks queues period deadline receiver square
-      ≡ judged (firstLines tasks queues period deadline receiver square ++ tableLines T) refusedPlan (accepted T)
+      ≡ (let t = tabled tasks queues period deadline receiver square in
+      judged (firstLines tasks queues period deadline receiver square ++ tableLines t) refusedPlan (accepted t))
   unfolding planOf tableJudged
   plan-lines = refl
 
@@ -153,7 +150,7 @@ module _ (tasks queues : ℕ) (period deadline receiver : List ℕ) (square : Li
 
   module _ (yes : planOf tasks queues period deadline receiver square .answer ≡ Answer.Accepted) where
     -- an accepted plan holds the table with the least sizes and their places
-    pub accepted-is : planOf tasks queues period deadline receiver square .plan ≡ sized T
+    pub accepted-is : planOf tasks queues period deadline receiver square .plan ≡ sized (tabled tasks queues period deadline receiver square)
     accepted-is = passes yes .plan-is
 
     pub accepted-made : Made (planOf tasks queues period deadline receiver square .plan)

@@ -1,7 +1,8 @@
 -- A least size is small: equation 3 bounds it, and periods are bounded.
 use Rattle.common.specs.Words.{ℕ, _+_, _*_, _/_, _≤_, arith, div-le-self, mul-le-mul-right}
 use Rattle.common.specs.Totals.{only, only-most, sum-bound, most-le}
-use Rattle.model.specs.Model.{reach, equation3, slots}
+use Rattle.model.specs.Model.{slots}
+use Rattle.model.specs.Source.{reach, equation3}
 use Rattle.model.specs.Equation3.{slots-bound}
 use Rattle.plan.specs.Limits.{taskLimit, longestPeriod}
 use Rattle.plan.specs.Plan.{queueAt, Usable}

@@ -3,7 +3,7 @@ use Rattle.common.specs.Words.{ℕ, _<_, _≤_, arith, _&&_, _≡_, sym, _∙_,
 use Rattle.common.specs.Tests.{tests, and-left}
 use Rattle.common.specs.Rows.{firstBad-is}
 use Rattle.model.specs.Model.{hyperperiod, slots}
-use Rattle.calendar.specs.Calendar.{capped-within, capped-over}
+use Rattle.calendar.specs.Multiples.{capped-within, capped-over}
 use Rattle.plan.specs.Limits.{longestHyperperiod}
 use Rattle.plan.specs.Plan.{queueAt}
 use Rattle.plan.specs.Sound.{checked-usable}

@@ -2,7 +2,7 @@
 use Rattle.common.specs.Words.{_<_, sym, _∙_, needs}
 use Rattle.common.specs.Tests.{tests}
 use Rattle.model.specs.Model.{hyperperiod}
-use Rattle.calendar.specs.Calendar.{capped-within, capped-over}
+use Rattle.calendar.specs.Multiples.{capped-within, capped-over}
 use Rattle.plan.specs.Limits.{longestHyperperiod}
 use Rattle.plan.specs.Plan.{queueAt}
 use Rattle.sizing.proofs.cycle.cycle_short.Statement.{statement}

@@ -5,7 +5,7 @@ use Rattle.common.specs.Tests.{tests, true-or-false}
 use Rattle.model.specs.Model.{Queue, lcm, multiple, hyperperiod}
 use Rattle.model.specs.Multiple.{multiple-none, multiple-on, multiple-off, multiple-pos, multiple-mono}
 use Rattle.model.specs.Order.{period-pos}
-use Rattle.calendar.specs.Calendar.{capped-within, capped-over}
+use Rattle.calendar.specs.Multiples.{capped-within, capped-over}
 use Rattle.plan.specs.Limits.{longestHyperperiod}
 use Rattle.plan.specs.Plan.{queueAt}
 use Rattle.sizing.proofs.cycle.hyperperiod_of.Statement.{statement}
