@@ -3,8 +3,7 @@
 // All functions are inner ones: they require what the crates above have tested.
 ghost use Rattle.common.specs.Words.{_≡_, _<_, _≤_, _^_, _/_};
 ghost use Rattle.model.specs.Model.{Queue, receiverDeadline, wantedFor, count, hasDeadline, released, due, gcd, lcm};
-ghost use Rattle.calendar.specs.Calendar.{tick, job};
-ghost use Rattle.calendar.specs.Multiples.{capped};
+ghost use Rattle.calendar.specs.Calendar.{tick, job, capped};
 
 // A moment, counted from tick 0.
 pub struct Tick(pub u64);

@@ -1,5 +1,6 @@
 -- Laws of totals over the numbers below n, most often the rows of a table: sums and greatest values.
-use Rattle.common.specs.Words.{ℕ, zero, suc, _+_, _-_, _*_, _<_, _≤_, max, arith, add-one, Bool, true, false, _↔_, ⊎-elim, _≡_, refl, subst}
+use Rattle.common.specs.Words.{ℕ, zero, suc, _+_, _-_, _*_, _<_, _≤_, max, arith, add-one, Bool, true, false, _↔_, ⊎-elim, _≡_}
+use Rattle.common.specs.Words.{refl, subst}
 use Rattle.common.specs.Words.{eqb, eq-eqb, ne-eqb}
 use Rattle.common.specs.Tests.{lt-or-le}
 unfoldable pub use Rattle.common.specs.Terms.{only, sum, most}
@@ -43,10 +44,12 @@ unfolding sum
 sum-next f n = rw add-one
 
 -- and where the row's share hangs on a test
-pub sum-on : (b : ℕ → Bool) (f : ℕ → ℕ) (n : ℕ) → b n ≡ true → sum (λ j. only (b j) (f j)) (n + 1) ≡ sum (λ j. only (b j) (f j)) n + f n
+pub sum-on : (b : ℕ → Bool) (f : ℕ → ℕ) (n : ℕ) → b n ≡ true →
+    sum (λ j. only (b j) (f j)) (n + 1) ≡ sum (λ j. only (b j) (f j)) n + f n
 sum-on b f n h = rw h at (sum-next (λ j. only (b j) (f j)) n)
 
-pub sum-off : (b : ℕ → Bool) (f : ℕ → ℕ) (n : ℕ) → b n ≡ false → sum (λ j. only (b j) (f j)) (n + 1) ≡ sum (λ j. only (b j) (f j)) n
+pub sum-off : (b : ℕ → Bool) (f : ℕ → ℕ) (n : ℕ) → b n ≡ false →
+    sum (λ j. only (b j) (f j)) (n + 1) ≡ sum (λ j. only (b j) (f j)) n
 sum-off b f n h = omega (arith, rw h at (sum-next (λ j. only (b j) (f j)) n))
 
 pub sum-le : (f g : ℕ → ℕ) (n : ℕ) → ((i : ℕ) → i < n → f i ≤ g i) → sum f n ≤ sum g n
@@ -68,7 +71,8 @@ pub sum-up : (f : ℕ → ℕ) (m n : ℕ) → m ≤ n → sum f m ≤ sum f n
 unfolding sum
 sum-up f m zero h = let e : m ≡ 0 = omega arith in rw e (omega arith)
 sum-up f m (suc n) h =
-    ⊎-elim (λ (l : n < m). let e : m ≡ suc n = omega arith in rw e (omega arith)) (λ (g : m ≤ n). omega (arith, sum-up f m n g)) (lt-or-le n m)
+    ⊎-elim (λ (l : n < m). let e : m ≡ suc n = omega arith in rw e (omega arith)) (λ (g : m ≤ n). omega (arith, sum-up f m n g))
+    (lt-or-le n m)
 
 pub sum-bound : (f : ℕ → ℕ) (n b : ℕ) → ((i : ℕ) → i < n → f i ≤ b) → sum f n ≤ n * b
 unfolding sum

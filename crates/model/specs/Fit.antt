@@ -24,7 +24,8 @@ module _ (q : Queue) (v : Valid q) where
   -- a message is not among those that are outdated when its job is released
   pub outdated-less : (i k : ℕ) → Sender q i → outdated q (releaseOf q i k) < number q i k
   outdated-less i k s =
-      lt-of-not-le (λ g. not-le-of-lt (v .deadline-pos i (s .row)) (omega (arith, outdated-counts i k (releaseOf q i k) s .0 g, outdated-after q v (deadlineOf q i k))))
+      lt-of-not-le (λ g. not-le-of-lt (v .deadline-pos i (s .row))
+      (omega (arith, outdated-counts i k (releaseOf q i k) s .0 g, outdated-after q v (deadlineOf q i k))))
 
   -- the test that a program can make of one message after the other
   pub fit-iff : (L : ℕ) → Fit q L ↔ ((i k : ℕ) → Sender q i → Free q L i k)

@@ -1,5 +1,6 @@
 -- The least number of slots: the second hyperperiod decides, and its greatest need is the least fit size.
-use Rattle.common.specs.Words.{ℕ, zero, suc, _+_, _-_, _*_, _/_, _<_, _≤_, arith, mul-le-mul-right, lt-of-mul-lt-mul-right, le-of-mul-le-mul-right}
+use Rattle.common.specs.Words.{ℕ, zero, suc, _+_, _-_, _*_, _/_, _<_, _≤_, arith, mul-le-mul-right, lt-of-mul-lt-mul-right}
+use Rattle.common.specs.Words.{le-of-mul-le-mul-right}
 use Rattle.common.specs.Words.{le-refl, true, false, _↔_, ⊎-elim, _≡_, ap}
 use Rattle.common.specs.Tests.{lt-or-le, true-or-false}
 use Rattle.common.specs.Totals.{most-le}

@@ -62,7 +62,8 @@ rows =
     ∷ p 7 (first tableA 1 ∷ last tableA 1 ∷ []) (1 ∷ 3 ∷ [])
     ∷ p 8 (first tableA 4 ∷ last tableA 4 ∷ []) (11 ∷ 13 ∷ [])
     ∷ p 9
-    (slots tableA ∷ number tableA 1 1 ∷ outdatedAt tableA (deadlineOf tableA 1 1) ∷ number tableA 1 4 ∷ releaseOf tableA 1 4 ∷ equation3 tableA ∷ [])
+    (slots tableA ∷ number tableA 1 1 ∷ outdatedAt tableA (deadlineOf tableA 1 1) ∷ number tableA 1 4 ∷ releaseOf tableA 1 4
+    ∷ equation3 tableA ∷ [])
     (9 ∷ 4 ∷ 30 ∷ 12 ∷ 28 ∷ 10 ∷ [])
     ∷ p 10 (slots shorterReceiver ∷ []) (8 ∷ [])
     ∷ p 11 (slots samePeriods ∷ []) (2 ∷ [])

@@ -28,7 +28,8 @@ pub passed-good : {A : Type 0} (lines : List Line) (refused : Refusal → A) (go
 passed-good [] refused good h = refl
 passed-good (line ∷ lines) refused good h = rw (h .0) (passed-good lines refused good (h .1))
 
-pub stopped-refused : {A : Type 0} (lines : List Line) (r : Refusal) (refused : Refusal → A) (good : A) → Stopped lines r → judged lines refused good ≡ refused r
+pub stopped-refused : {A : Type 0} (lines : List Line) (r : Refusal) (refused : Refusal → A) (good : A) → Stopped lines r →
+    judged lines refused good ≡ refused r
 stopped-refused [] r refused good h = absurd h
 stopped-refused (line ∷ lines) r refused good (inl h) = rw (h .0) (ap refused (h .1))
 stopped-refused (line ∷ lines) r refused good (inr h) = rw (h .0) (stopped-refused lines r refused good (h .1))
@@ -49,7 +50,8 @@ judged-map f [] refused good = refl
 judged-map {A} {B} f (line ∷ lines) refused good = go (line .applies) (judged-map f lines refused good)
   where
     go : (b : Bool) → f (judged lines refused good) ≡ judged lines (λ r. f (refused r)) (f good) →
-        f (cond b (refused (line .given)) (judged lines refused good)) ≡ cond b (f (refused (line .given))) (judged lines (λ r. f (refused r)) (f good))
+        f (cond b (refused (line .given)) (judged lines refused good))
+        ≡ cond b (f (refused (line .given))) (judged lines (λ r. f (refused r)) (f good))
     go true e = refl
     go false e = e
 

@@ -30,6 +30,7 @@ module _ {p : Plan} {q : ℕ} (u : Usable p q) where
         arith,
         slots-bound (queueAt p q) (u .valid),
         sum-bound (λ i. only (queueAt p q .sends i) (reach (queueAt p q) / queueAt p q .period i + 1)) (p .tasks) (3 * longestPeriod + 1)
-            (λ i l. only-most (queueAt p q .sends i) _ _ (λ y. omega (arith, reach-small, div-le-self (reach (queueAt p q)) (queueAt p q .period i)))),
+            (λ i l. only-most (queueAt p q .sends i) _ _
+            (λ y. omega (arith, reach-small, div-le-self (reach (queueAt p q)) (queueAt p q .period i)))),
         mul-le-mul-right (3 * longestPeriod + 1) (u .tasks-fit),
       )

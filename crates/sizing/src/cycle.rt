@@ -4,7 +4,7 @@ use plan::Plan;
 ghost use Rattle.common.specs.Words.{_≡_, cond, _&&_, _≤_, _/_};
 ghost use Rattle.common.specs.Totals.{only};
 ghost use Rattle.model.specs.Model.{lcm, hyperperiod, messages};
-ghost use Rattle.calendar.specs.Multiples.{capped};
+ghost use Rattle.calendar.specs.Calendar.{capped};
 ghost use Rattle.plan.specs.Limits.{longestHyperperiod};
 ghost use Rattle.plan.specs.Plan.{queueAt, Usable};
 ghost use Rattle.sizing.specs.Cycle.{cycleShort, messagesFew};

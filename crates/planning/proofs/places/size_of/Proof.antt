@@ -3,7 +3,7 @@ use Rattle.common.specs.Words.{ℕ, _<_, _≤_, arith, _&&_, _≡_, sym, _∙_,
 use Rattle.common.specs.Tests.{tests, and-left}
 use Rattle.common.specs.Rows.{firstBad-is}
 use Rattle.model.specs.Model.{hyperperiod, slots}
-use Rattle.calendar.specs.Multiples.{capped-within, capped-over}
+use Rattle.calendar.specs.Calendar.{capped-within, capped-over}
 use Rattle.plan.specs.Limits.{longestHyperperiod}
 use Rattle.plan.specs.Plan.{queueAt}
 use Rattle.plan.specs.Sound.{checked-usable}
@@ -38,7 +38,8 @@ slots-requires : tie.Need-slots-over-requires
 slots-requires c κs =
     let h = c .before .before .before in
     let k = h .before .before .before in
-    let w = capped-within longestHyperperiod (hyperperiod (queueAt (k .args .table) (k .args .queue))) _ (sym (h .hyperperiod-of .ensures) ∙ c .before .cycle .given .1) in
+    let w = capped-within longestHyperperiod (hyperperiod (queueAt (k .args .table) (k .args .queue))) _
+    (sym (h .hyperperiod-of .ensures) ∙ c .before .cycle .given .1) in
     (checked-usable (k .pre .0) (k .args .queue) (h .before .if1 .left), rw (w .0) (w .1))
 
 returns-3 : tie.Need-returns-3

@@ -2,7 +2,7 @@
 use Rattle.common.specs.Words.{_<_, sym, _∙_, needs}
 use Rattle.common.specs.Tests.{tests}
 use Rattle.model.specs.Model.{hyperperiod}
-use Rattle.calendar.specs.Multiples.{capped-within, capped-over}
+use Rattle.calendar.specs.Calendar.{capped-within, capped-over}
 use Rattle.plan.specs.Limits.{longestHyperperiod}
 use Rattle.plan.specs.Plan.{queueAt}
 use Rattle.sizing.proofs.cycle.cycle_good.Statement.{statement}
@@ -18,13 +18,15 @@ returns c =
 messages-requires : tie.Need-messages-in-requires
 messages-requires c κs =
     let k = c .before .before .before in
-    let w = capped-within longestHyperperiod (hyperperiod (queueAt (k .before .args .plan) (k .before .args .queue))) _ (sym (k .hyperperiod-of .ensures) ∙ c .before .cycle .given .1) in
+    let w = capped-within longestHyperperiod (hyperperiod (queueAt (k .before .args .plan) (k .before .args .queue))) _
+    (sym (k .hyperperiod-of .ensures) ∙ c .before .cycle .given .1) in
     (k .before .pre, rw (w .0) (w .1))
 
 returns-2 : tie.Need-returns-2
 returns-2 c =
     let k = c .before .before .before .before in
-    let w = capped-within longestHyperperiod (hyperperiod (queueAt (k .before .args .plan) (k .before .args .queue))) _ (sym (k .hyperperiod-of .ensures) ∙ c .before .before .cycle .given .1) in
+    let w = capped-within longestHyperperiod (hyperperiod (queueAt (k .before .args .plan) (k .before .args .queue))) _
+    (sym (k .hyperperiod-of .ensures) ∙ c .before .before .cycle .given .1) in
     let h = w .1 in
     rw (c .messages-in .ensures, w .0) (search tests)
 

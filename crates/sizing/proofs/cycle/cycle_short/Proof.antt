@@ -2,7 +2,7 @@
 use Rattle.common.specs.Words.{_<_, sym, _∙_, needs}
 use Rattle.common.specs.Tests.{tests}
 use Rattle.model.specs.Model.{hyperperiod}
-use Rattle.calendar.specs.Multiples.{capped-within, capped-over}
+use Rattle.calendar.specs.Calendar.{capped-within, capped-over}
 use Rattle.plan.specs.Limits.{longestHyperperiod}
 use Rattle.plan.specs.Plan.{queueAt}
 use Rattle.sizing.proofs.cycle.cycle_short.Statement.{statement}
@@ -11,7 +11,8 @@ use Rattle.sizing.proofs.cycle.cycle_short.Tie as tie
 returns : tie.Need-returns
 returns c =
     let k = c .before .before in
-    let w = capped-within longestHyperperiod (hyperperiod (queueAt (k .before .args .plan) (k .before .args .queue))) _ (sym (k .hyperperiod-of .ensures) ∙ c .enum-told .given .1) in
+    let w = capped-within longestHyperperiod (hyperperiod (queueAt (k .before .args .plan) (k .before .args .queue))) _
+    (sym (k .hyperperiod-of .ensures) ∙ c .enum-told .given .1) in
     let h = w .1 in
     search tests
 
