@@ -1,5 +1,5 @@
 -- Laws of tests over the rows below n: that every row passes, and which row is the first that does not.
-use Rattle.common.specs.Words.{ℕ, zero, suc, _+_, _<_, _≤_, arith, add-one, Bool, true, false, cond, not, _&&_, _⊎_, inl, inr, _↔_}
+use Rattle.common.specs.Words.{ℕ, zero, suc, _+_, _<_, _≤_, arith, add-one, Bool, true, false, cond, not, _⊎_, inl, inr, _↔_}
 use Rattle.common.specs.Words.{⊎-elim}
 use Rattle.common.specs.Words.{_≡_, refl, sym, subst, _∙_, ltb, lt-ltb, le-ltb, ltb-true, not-true, not-false}
 use Rattle.common.specs.Tests.{lt-or-le, true-or-false, having, clash, and-left, and-right}

@@ -1,5 +1,5 @@
 -- Laws of totals over the numbers below n, most often the rows of a table: sums and greatest values.
-use Rattle.common.specs.Words.{ℕ, zero, suc, _+_, _-_, _*_, _<_, _≤_, max, arith, add-one, Bool, true, false, _↔_, ⊎-elim, _≡_}
+use Rattle.common.specs.Words.{ℕ, zero, suc, _+_, _*_, _<_, _≤_, max, arith, add-one, Bool, true, false, _↔_, ⊎-elim, _≡_}
 use Rattle.common.specs.Words.{refl, subst}
 use Rattle.common.specs.Words.{eqb, eq-eqb, ne-eqb}
 use Rattle.common.specs.Tests.{lt-or-le}

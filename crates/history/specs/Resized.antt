@@ -1,6 +1,6 @@
 -- A plan with another size for one queue is sound where the new size is at least 1 and no greater than the old one.
-use Rattle.common.specs.Words.{ℕ, _≤_, _<_, arith, ℕ-discrete, cond, _≡_, refl, sym, _∙_, ltb, eqb, lt-ltb, eq-eqb, ne-eqb}
-use Rattle.common.specs.Table.{table, table-at}
+use Rattle.common.specs.Words.{ℕ, _≤_, _<_, arith, ℕ-discrete, _≡_, refl, sym, _∙_, ltb, lt-ltb, eq-eqb, ne-eqb}
+use Rattle.common.specs.Table.{table-at}
 use Rattle.common.specs.Totals.{only, sum, sum-ext, sum-le}
 use Rattle.plan.specs.Limits.{queueLimit}
 use Rattle.plan.specs.Plan.{sizeAt, placeAt, slotsOf}

@@ -1,5 +1,5 @@
 -- The greatest common divisor by Euclid's rule: the two rules that determine it, and what it is.
-use Rattle.common.specs.Words.{_≡_, refl, sym, ap, _∙_, false, cond, ⊎-elim, ℕ, zero, suc, _+_, _*_, _/_, _%_, _<_, _∣_, not-suc-le-zero}
+use Rattle.common.specs.Words.{_≡_, refl, sym, ap, _∙_, false, cond, ⊎-elim, ℕ, zero, suc, _+_, _*_, _/_, _%_, _<_, not-suc-le-zero}
 use Rattle.common.specs.Words.{mod-lt}
 use Rattle.common.specs.Words.{eq-zero-or-pos, dvd-refl, dvd-zero, dvd-mod-iff, zero-mul, mul-pos, add-mul, mul-assoc, mul-lt-mul-of-pos-right}
 use Rattle.common.specs.Words.{div-add-mod', arith, eq-eqb, ne-eqb, eqb}

@@ -1,7 +1,7 @@
 -- What source 000 and document 01 say of the numbers and sizes that Model computes, for the laws to hold them to: the order of
 -- Definition 1, when a message is outdated, which numbers of slots are fit, equation 3, common multiples and divisors.
 -- There are definitions only. No contract of the code needs them.
-use Rattle.common.specs.Words.{ℕ, _+_, _-_, _*_, _/_, _<_, _≤_, _∣_, Bool, true, cond, _⊎_, _≡_}
+use Rattle.common.specs.Words.{ℕ, _+_, _-_, _*_, _/_, _<_, _≤_, _∣_, true, cond, _⊎_, _≡_}
 use Rattle.common.specs.Terms.{only, sum, most}
 use Rattle.model.specs.Model.{Queue, Sender, receiverPeriod, releaseOf, deadlineOf, precedes, countOf, number, wantedUntil}
 

@@ -9,7 +9,7 @@ use Rattle.plan.specs.Limits.{taskLimit, queueLimit, longestPeriod, most
 use Rattle.plan.specs.Rules.{oneTo, countsGood, taskGood, maySend, onlyTasksSend, queueGood, placeGood, connected}
 use Rattle.plan.specs.Plan.{queueAt}
 use Rattle.plan.specs.declared.Plan.{Plan}
-pub use Rattle.plan.specs.Kept.{OneTo, Counts, Task, OnlyTasks, SomeSender, Connected}
+pub use Rattle.plan.specs.Obeyed.{OneTo, Counts, Task, OnlyTasks, SomeSender, Connected}
 
 lt-iff : (a b : ℕ) → (ltb a b ≡ true) ↔ (a < b)
 lt-iff a b = (ltb-true a b, lt-ltb a b)

@@ -6,7 +6,7 @@ pub mod Queues
 pub mod Plan
 pub mod Square
 pub mod Rules
-pub mod Kept
+pub mod Obeyed
 pub mod Facts
 pub mod Connections
 pub mod Sound

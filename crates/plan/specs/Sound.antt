@@ -4,13 +4,13 @@ use Rattle.common.specs.Tests.{and-iff, having}
 use Rattle.common.specs.Totals.{sum, sum-next, sum-up}
 use Rattle.common.specs.Rows.{every, every-iff, every-firstBad}
 use Rattle.model.specs.Model.{Sender}
-use Rattle.plan.specs.Limits.{taskLimit, queueLimit, longestPeriod, mostSlots}
+use Rattle.plan.specs.Limits.{mostSlots}
 use Rattle.plan.specs.Plan.{zeros, sendsInto, queueAt, sizeAt, placeAt, slotsOf, Usable}
 use Rattle.plan.specs.Rules.{countsGood, taskGoodAt, queueGoodAt, placeGoodAt, placesGood, checkedPlan, soundPlan, badTask, badQueue, oneTo}
-use Rattle.plan.specs.Facts.{Counts, Task, OnlyTasks, SomeSender, Connected, Placed, le-iff, counts-iff, task-iff, queue-iff, place-iff}
+use Rattle.plan.specs.Facts.{Counts, Task, Connected, Placed, le-iff, counts-iff, task-iff, queue-iff, place-iff}
 use Rattle.plan.specs.Connections.{Agree, badQueue-same}
 use Rattle.plan.specs.declared.Plan.{Plan}
-pub use Rattle.plan.specs.Kept.{Checked, Sound}
+pub use Rattle.plan.specs.Obeyed.{Checked, Sound}
 
 -- ## Exactly when
 

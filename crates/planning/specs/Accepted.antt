@@ -1,19 +1,18 @@
 -- What an accepted planning has made: a sound plan, its table as handed in with zeros beyond the counts, the least fit sizes, never
 -- above equation 3, and the places as running sums. What a refused one has made: the plan of all zeros.
-use Rattle.common.specs.Words.{ℕ, _<_, _≤_, arith, Bool, true, false, _&&_, List, _++_, _⊎_, inl, inr, _↔_, _≡_, refl, sym, ap, _∙_}
+use Rattle.common.specs.Words.{ℕ, _<_, _≤_, arith, Bool, false, _&&_, List, _++_, _⊎_, inl, inr, _↔_, _≡_, refl, sym, ap, _∙_}
 use Rattle.common.specs.Words.{lt-ltb}
 use Rattle.common.specs.Words.{ltb-false, leb-true, not-false, ltb, getD}
 use Rattle.common.specs.Tests.{and-left}
 use Rattle.common.specs.Totals.{only, sum, sum-ext, sum-at}
 use Rattle.common.specs.Table.{table, table-at}
 use Rattle.common.specs.Rows.{firstBad, firstBad-is}
-use Rattle.model.specs.Model.{hyperperiod, slots}
+use Rattle.model.specs.Model.{hyperperiod}
 use Rattle.model.specs.Source.{Fit, equation3}
 use Rattle.model.specs.Slots.{slots-iff, slots-pos}
 use Rattle.model.specs.Equation3.{slots-bound}
 use Rattle.plan.specs.Limits.{queueLimit, longestHyperperiod, mostSlots}
 use Rattle.plan.specs.Plan.{zeros, queueAt, sizeAt, placeAt, Usable}
-use Rattle.plan.specs.Rules.{soundPlan}
 use Rattle.plan.specs.Refusals.{judged}
 use Rattle.plan.specs.Verdicts.{Passed, Stopped, passed-or-stopped, passed-good, stopped-refused, judged-good}
 use Rattle.plan.specs.Sound.{Checked, Sound, sound-iff, checked-usable, checked-sender, usable}

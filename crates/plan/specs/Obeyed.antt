@@ -1,4 +1,4 @@
--- What it means that a rule of document 01's table is kept, in plain facts. Each test of Rules passes exactly when its facts hold
+-- What it means that a rule of document 01's table is obeyed, in plain facts. Each test of Rules passes exactly when its facts hold
 -- (laws of Facts and Sound). There are definitions only.
 use Rattle.common.specs.Words.{ℕ, _<_, _≤_, Bool, true, _≡_, getD}
 use Rattle.common.specs.Terms.{sum}
@@ -28,7 +28,7 @@ SomeSender sends = (i : ℕ) × (i < taskLimit) × (sends i ≡ true)
 abbrev pub Connected : ℕ → ℕ → (ℕ → Bool) → Type 0
 Connected tasks receiver sends = (receiver < tasks) × (OnlyTasks tasks sends × SomeSender sends)
 
--- Rules 1 to 3 are kept: what planning finds out before it has sizes.
+-- Rules 1 to 3 are obeyed: what planning finds out before it has sizes.
 pub record Checked (p : Plan) : Type 0 where
   -- 1
   pub some-task : 1 ≤ p .tasks
@@ -44,7 +44,7 @@ pub record Checked (p : Plan) : Type 0 where
   pub sender-row : (q : ℕ) → q < p .queues → OnlyTasks (p .tasks) (sendsInto p q)
   pub some-sender : (q : ℕ) → q < p .queues → SomeSender (sendsInto p q)
 
--- Rule 7 is kept.
+-- Rule 7 is obeyed.
 pub record Sound (p : Plan) : Type 0 where
   pub checked : Checked p
   pub size-pos : (q : ℕ) → q < p .queues → 1 ≤ sizeAt p q
