@@ -1,8 +1,8 @@
 """What a reader has to believe: the definitions that contracts and promises lead to.
 
 The search begins with the contracts of the interface (docs/CONTRACTS.md, first list) and of what the programs call, and with what the tables
-of docs/PROMISES.md name. A definition is a name marked `abbrev` or `unfoldable`, a `record` or a `data`: it is believed with
-all that its type and its body mention. Of a law the statement alone is believed, with all that it mentions; its proof is checked. A name is
+of docs/PROMISES.md name. A definition is a name marked `abbrev` or `unfoldable`, a `record` or a `data`: it is believed with all that its
+type and its body mention. Of a law the statement alone is believed, with all that it mentions; its proof is checked. A name is
 looked up as the checker looks it up: in its own file, then along the file's `use` lines, through every `pub use` and `as`, to the file that
 declares it. The kit's own names and the types that the code declares end the search.
 
@@ -115,13 +115,18 @@ class Search:
     def page(self, path):
         if path not in self.pages:
             self.pages[path] = Page(path)
+            if '*' in self.pages[path].modules:
+                self.faults.append(f'{path} brings in names with `*`, which cannot be followed')
         return self.pages[path]
 
     def text(self, page, text, own=''):
         for word in mentioned(text) - {own}:
             head, dot, rest = word.partition('.')
+            module, _, last = word.rpartition('.')
             if dot and head in page.modules:
                 self.name(file_of(page.modules[head]), rest.split('.')[0])
+            if file_of(module):
+                self.name(file_of(module), last)
             for name in [*page.declared, *page.owner, *page.brought]:
                 if head == name or head and '_' in name and head in name.split('_'):
                     self.name(page.path, name)
@@ -195,8 +200,9 @@ def parts(found):
 def totals(found):
     """The rows that sum up the list."""
     for label, files, laws in parts(found):
-        lines, read_ = sum(len(read(path).splitlines()) for path in files), sum(to_read(path) for path in files)
-        yield f'| {label}, {len(files)} files | {lines} | {read_} of them to be read, the rest blank or `use`; and {len(laws)} statements, {sum(laws)} lines |'
+        lines = sum(len(read(path).splitlines()) for path in files)
+        of_them = f'{sum(map(to_read, files))} of them to be read, the rest blank or `use`'
+        yield f'| {label}, {len(files)} files | {lines} | {of_them}; and {len(laws)} statements, {sum(laws)} lines |'
 
 
 def faults(most_of_base):
@@ -214,7 +220,7 @@ def faults(most_of_base):
     for row in totals(found):
         if row not in page:
             yield f'docs/PROMISES.md has to say: {row}'
-    lines = sum(to_read(path) for path in next(parts(found))[1])
+    lines = sum(map(to_read, next(parts(found))[1]))
     if most_of_base and lines > most_of_base:
         yield f'of the base {lines} lines have to be believed, over {most_of_base}'
 
