@@ -1,6 +1,7 @@
 -- The carry buffer: its first `used` bytes are the carry. What it holds after a part of a line was put behind the carry, and the line
 -- that the carry and that part make.
-use Rattle.common.specs.Words.{ℕ, _+_, _-_, _<_, _≤_, min, arith, cond, List, _++_, ⊎-elim, _≡_, sym, ap, _∙_, eqb, ltb, length, take, drop}
+use Rattle.common.specs.Words.{ℕ, _+_, _-_, _<_, _≤_, min, arith, cond, List, _++_, ⊎-elim, _≡_, sym, ap, _∙_, eqb, ltb, length, take}
+use Rattle.common.specs.Words.{drop}
 use Rattle.common.specs.Words.{length-append, length-take, take-all, take-take, take-length, length-take-le, sets, length-sets, sets-eq}
 use Rattle.common.specs.Words.{take-append-add, take-at, eq-eqb, ne-eqb, lt-ltb}
 use Rattle.common.specs.Tests.{lt-or-le}

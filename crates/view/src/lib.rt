@@ -6,7 +6,8 @@ ghost use Rattle.running.specs.View.{viewOf, placeOf};
 
 // A message's payload bytes in the memory, the filler's bytes for a gap, and else the empty part at the filler's start.
 pub fn view<'a>(answer: Received, memory: &'a [u8], filler: &'a [u8]) -> &'a [u8]
-    ensures { λ r. ⌜ (now r ≡ viewOf answer (now (memory .entry)) (now (filler .entry))) × (r .ptr ≡ placeOf answer (memory .entry) (filler .entry)) ⌝ }
+    ensures { λ r. ⌜ (now r ≡ viewOf answer (now (memory .entry)) (now (filler .entry)))
+        × (r .ptr ≡ placeOf answer (memory .entry) (filler .entry)) ⌝ }
 {
     if filler.len() != Plan::PAYLOAD_BYTES {
         return &filler[..0];

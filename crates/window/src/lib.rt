@@ -80,7 +80,8 @@ pub fn sender_in<'a>(
     requires { ⌜ Lent (now sends) (now period) (now deadline) tasks queue × (high .0 ≤ lastTick)
         × (upTo (columnsAt (now sends) (now period) (now deadline) tasks queue) (low .0) < n .0)
         × (n .0 ≤ upTo (columnsAt (now sends) (now period) (now deadline) tasks queue) (high .0)) ⌝ }
-    ensures { λ r. ⌜ r ≡ senderOf (columnsAt (now (sends .entry)) (now (period .entry)) (now (deadline .entry)) tasks queue) lastTick (n .0) ⌝ }
+    ensures { λ r. ⌜ r ≡ senderOf (columnsAt (now (sends .entry)) (now (period .entry)) (now (deadline .entry)) tasks queue) lastTick
+        (n .0) ⌝ }
 {
     let at = counting::sender::tick_between(sends, period, deadline, tasks, queue, n, low, high);
     counting::sender::sender_at(sends, period, deadline, tasks, queue, n, at)

@@ -14,7 +14,8 @@ abbrev μ-loop : tie.MeasureT-loop
 loop-again : tie.Need-loop-again Inv-loop μ-loop
 loop-again c =
     let l = c .before .before .before .before in
-    end-passes (l .before .before .args .piece .now) (l .loop .i) stride (search needs) (sym (c .before .near .ensures) ∙ c .if2 .left) ∙ l .loop .inv
+    end-passes (l .before .before .args .piece .now) (l .loop .i) stride (search needs) (sym (c .before .near .ensures) ∙ c .if2 .left)
+    ∙ l .loop .inv
 
 pub skip-spec : {M : Type 1} → statement M
 skip-spec =

@@ -75,7 +75,8 @@ outdated-requires c κs =
 -- what is outdated at the job's release
 known : (c : tie.After-outdated-at Inv-loop μ-loop) → let l = c .before .before .before in let a = start l .args in
     (upTo (columns l) (horizonFor (a .chart) (a .wanted) (releaseOf (columns l) (task l) (job l))) ≡ c .outdated-at .result .count)
-    × OutdatedFrom (columns l) (a .chart) (a .wanted) (releaseOf (columns l) (task l) (job l)) (c .outdated-at .result .until) (c .outdated-at .result .count)
+    × OutdatedFrom (columns l) (a .chart) (a .wanted) (releaseOf (columns l) (task l) (job l)) (c .outdated-at .result .until)
+    (c .outdated-at .result .count)
 known c =
     let e = rw (c .before .release-of .ensures) at (c .outdated-at .ensures) in
     (e .1 _ (le-refl _) (e .0), e .1)
@@ -95,7 +96,11 @@ loop-again c =
     let a = start l .args in
     let e : n .need-of .result ≡ needFor (columns l) (a .chart) (a .wanted) (task l) (job l) = rw (known o .0) (n .need-of .ensures) in (
       omega arith,
-      rw (most-next (λ k. needFor (columns l) (a .chart) (a .wanted) (task l) (a .ticks / columns l .period (task l) + k)) (l .before .loop .k), ← l .before .loop .inv .1, ← e) (c .larger .ensures),
+      rw (
+        most-next (λ k. needFor (columns l) (a .chart) (a .wanted) (task l) (a .ticks / columns l .period (task l) + k)) (l .before .loop .k),
+        ← l .before .loop .inv .1,
+        ← e,
+      ) (c .larger .ensures),
       λ r f g. known o .1 r (omega (arith, f)) g,
     )
 
