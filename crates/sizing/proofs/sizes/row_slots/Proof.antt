@@ -14,7 +14,7 @@ abbrev Inv-loop : tie.InvT-loop
 Inv-loop sends period deadline tasks queue chart wanted task ticks jobs most₀ outdated₀ k₀ most outdated k =
     let q = columnsAt sends period deadline tasks queue in
     (k ≤ jobs) × (most ≡ Rattle.common.specs.Totals.most (λ k. needFor q chart wanted task (jobs + k)) k)
-    × OutdatedFrom q chart wanted (releaseOf q task (jobs + k)) (outdated .until) (outdated .count)
+    × OutdatedFrom q chart wanted (releaseOf q task (jobs + k)) (outdated .until .0) (outdated .count)
 
 abbrev μ-loop : tie.MeasureT-loop
 μ-loop sends period deadline tasks queue chart wanted task ticks jobs most₀ outdated₀ k₀ most outdated k = jobs - k
@@ -75,7 +75,8 @@ outdated-requires c κs =
 -- what is outdated at the job's release
 known : (c : tie.After-outdated-at Inv-loop μ-loop) → let l = c .before .before .before in let a = start l .args in
     (upTo (columns l) (horizonFor (a .chart) (a .wanted) (releaseOf (columns l) (task l) (job l))) ≡ c .outdated-at .result .count)
-    × OutdatedFrom (columns l) (a .chart) (a .wanted) (releaseOf (columns l) (task l) (job l)) (c .outdated-at .result .until) (c .outdated-at .result .count)
+    × OutdatedFrom (columns l) (a .chart) (a .wanted) (releaseOf (columns l) (task l) (job l)) (c .outdated-at .result .until .0)
+    (c .outdated-at .result .count)
 known c =
     let e = rw (c .before .release-of .ensures) at (c .outdated-at .ensures) in
     (e .1 _ (le-refl _) (e .0), e .1)
