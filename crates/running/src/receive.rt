@@ -1,5 +1,6 @@
 // Receive: a look at the receiver's next message, which changes nothing. `receive_on` is lent the columns of a plan, as `send_on` is.
 use crate::Received;
+use calendar::Number;
 use calendar::Tick;
 use plan::Plan;
 use plan::refusal::Refusal;
@@ -52,8 +53,8 @@ pub fn receive_on<'a>(
     let row = receiver[queue];
     let every = period[row];
     let window = window::window_at(sends, period, deadline, tasks, queue, every, at);
-    let next = window::next_number(reading, window.before);
-    if window.end < next.0 {
+    let next = window::next_number(Number(reading), window.before);
+    if window.end.0 < next.0 {
         return Received::Empty;
     }
     let slot = slots::places::slot_for(place[queue], size[queue], next);
