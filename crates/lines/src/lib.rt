@@ -5,6 +5,7 @@ ghost use Rattle.common.specs.Words.{_≡_, _+_, _-_, _≤_, min, length};
 ghost use Rattle.common.specs.Stores.{part};
 ghost use Rattle.lines.specs.Lines.{kept};
 ghost use Rattle.lines.specs.Ends.{stride, feedIn, endOf};
+ghost use Rattle.lines.specs.Strides.{skipOf};
 ghost use Rattle.lines.specs.Held.{keptOf, heldOf, joinedOf, joinedIn, LineGives};
 
 pub const KEPT: usize = 101;
@@ -28,9 +29,9 @@ fn near(piece: &[u8], from: usize) -> bool
     seen
 }
 
-// Passes over strides that have no line feed: from the place that it answers on, the first line feed is the same.
+// Passes over whole strides that have no line feed, up to the first that has one or is cut short by the block's end.
 fn skip(piece: &[u8], from: usize) -> usize
-    ensures { λ r. ⌜ endOf (now (piece .entry)) r ≡ endOf (now (piece .entry)) from ⌝ }
+    ensures { λ r. ⌜ r ≡ skipOf (now (piece .entry)) from ⌝ }
 {
     let mut i = from;
     while i < piece.len() {

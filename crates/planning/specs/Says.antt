@@ -34,5 +34,6 @@ pub plan-says : (tasks queues : ℕ) (period deadline receiver : List ℕ) (squa
 unfolding tabled
 plan-says tasks queues period deadline receiver square =
     let t = tabled tasks queues period deadline receiver square in
+    let lines = firstLines tasks queues period deadline receiver square ++ tableLines t in
     ap (λ (x : Planned). answerSays (x .answer)) (plan-lines tasks queues period deadline receiver square)
-    ∙ judged-map (λ (x : Planned). answerSays (x .answer)) (firstLines tasks queues period deadline receiver square ++ tableLines t) refusedPlan (accepted t)
+    ∙ judged-map (λ (x : Planned). answerSays (x .answer)) lines refusedPlan (accepted t)
