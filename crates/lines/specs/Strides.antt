@@ -54,7 +54,8 @@ module _ (p : List ℕ) (from : ℕ) where
       let f = h k (omega arith) in
       let z : from + suc k * stride ≡ from + k * stride + stride = omega arith in
       rw z
-      (end-passes p (from + k * stride) stride (leb-true _ _ (and-left _ _ f)) (not-true _ (and-right (leb (from + k * stride + stride) (length p)) _ f))
+      (end-passes p (from + k * stride) stride (leb-true _ _ (and-left _ _ f))
+      (not-true _ (and-right (leb (from + k * stride + stride) (length p)) _ f))
       ∙ passes k (λ j l. h j (omega arith)))
 
   -- the line ends where it did

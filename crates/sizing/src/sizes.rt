@@ -11,7 +11,8 @@ ghost use Rattle.calendar.specs.Calendar.{tick};
 ghost use Rattle.plan.specs.Limits.{lastTick, longestPeriod, longestHyperperiod};
 ghost use Rattle.plan.specs.Plan.{queueAt, Usable};
 ghost use Rattle.counting.specs.Columns.{columnsAt, Lent};
-ghost use Rattle.sizing.specs.Needs.{horizonFor, numberFor, rowSlotsFor, OutdatedFrom};
+ghost use Rattle.sizing.specs.Needs.{horizonFor, numberFor, rowSlotsFor};
+ghost use Rattle.sizing.specs.Outdated.{outdatedNext};
 
 // The last deadline whose messages are outdated at a tick.
 fn horizon_at(chart: u64, wanted: u64, at: Tick) -> Tick
@@ -43,12 +44,9 @@ fn outdated_at<'a>(
     known: Outdated,
 ) -> Outdated
     requires { ⌜ Lent (now sends) (now period) (now deadline) tasks queue
-        × (1 ≤ chart) × (chart ≤ longestPeriod) × (wanted ≤ longestPeriod) × (release .0 ≤ lastTick)
-        × OutdatedFrom (columnsAt (now sends) (now period) (now deadline) tasks queue) chart wanted
-        (release .0) (known .until .0) (known .count) ⌝ }
-    ensures { λ r. ⌜ (release .0 < r .until .0)
-        × OutdatedFrom (columnsAt (now (sends .entry)) (now (period .entry)) (now (deadline .entry)) tasks queue) chart wanted
-        (release .0) (r .until .0) (r .count) ⌝ }
+        × (1 ≤ chart) × (chart ≤ longestPeriod) × (wanted ≤ longestPeriod) × (release .0 ≤ lastTick) ⌝ }
+    ensures { λ r. ⌜ r ≡ outdatedNext
+        (columnsAt (now (sends .entry)) (now (period .entry)) (now (deadline .entry)) tasks queue) chart wanted (release .0) known ⌝ }
 {
     if release.0 < known.until.0 {
         return known;
