@@ -75,7 +75,8 @@ fn sent_by<'a>(
         deadline[row],
         at,
     ) {
-        number_due(sends, period, deadline, tasks, queue, at, row) == n.0
+        let number = number_due(sends, period, deadline, tasks, queue, at, row);
+        number.0 == n.0
     } else {
         false
     }

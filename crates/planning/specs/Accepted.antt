@@ -176,8 +176,3 @@ module _ {p : Plan} (made : Made p) (q : ℕ) (counted : q < p .queues) where
   -- "That L never exceeds the source's equation 3"
   pub made-bound : sizeAt p q ≤ equation3 (queueAt p q)
   made-bound = rw (made .least q counted) (slots-bound (queueAt p q) (made-usable .valid))
-
--- the contract determines the outcome
-pub make-plan-unique : (tasks queues : ℕ) (period deadline receiver : List ℕ) (square : List (List Bool)) (r s : Planned) →
-    r ≡ planOf tasks queues period deadline receiver square → s ≡ planOf tasks queues period deadline receiver square → r ≡ s
-make-plan-unique tasks queues period deadline receiver square r s a b = a ∙ sym b

@@ -58,8 +58,8 @@ fn look_on<'a>(
     let row = receiver[queue];
     let every = period[row];
     let window = window::window_at(sends, period, deadline, tasks, queue, every, at);
-    let next = window::next_number(reading[queue], window.before);
-    if window.end < next.0 {
+    let next = window::next_number(Number(reading[queue]), window.before);
+    if window.end.0 < next.0 {
         return Received::Empty;
     }
     let slot = slots::places::slot_for(place[queue], size[queue], next);

@@ -32,7 +32,7 @@ fn running_number<'a>(
 {
     let job = calendar::job_at(period[task], at);
     let due = calendar::deadline_of(period[task], deadline[task], job);
-    Number(counting::number::number_due(sends, period, deadline, tasks, queue, due, task))
+    counting::number::number_due(sends, period, deadline, tasks, queue, due, task)
 }
 
 // Stores a message, and answers as a send does. `sound` says whether the plan is; `before` is the state's tick, and `sent` its column of

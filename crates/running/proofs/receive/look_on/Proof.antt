@@ -41,15 +41,15 @@ module _ (p : Plan) (m : List ℕ) (q : ℕ) where
         rw (← g, e) (sym (by-verdict (receiveLines before p m q t) Received.Refused (accepted unread p m q t)))
 
     -- and then the window w and the next number n
-    module _ {w : Window} {n : Number} (unread : ℕ) (a : w ≡ planWindow p q t) (b : n ≡ message (max unread (w .before + 1))) where
-      chosen : accepted unread p m q t ≡ cond (ltb (w .end) (n .0)) Received.Empty (found p m q (n .0))
+    module _ {w : Window} {n : Number} (unread : ℕ) (a : w ≡ planWindow p q t) (b : n ≡ message (max unread (w .before .0 + 1))) where
+      chosen : accepted unread p m q t ≡ cond (ltb (w .end .0) (n .0)) Received.Empty (found p m q (n .0))
       chosen = rw (b, a, window-first p q t, window-last p q t)
 
-      in-window : n .0 ≤ w .end → (upTo (planColumns p q) (w .low .0) < n .0) × (n .0 ≤ upTo (planColumns p q) (w .high .0))
+      in-window : n .0 ≤ w .end .0 → (upTo (planColumns p q) (w .low .0) < n .0) × (n .0 ≤ upTo (planColumns p q) (w .high .0))
       in-window h =
-          let c : w .before ≡ upTo (planColumns p q) (w .low .0) = rw a in
-          let d : w .end ≡ upTo (planColumns p q) (w .high .0) = rw a in
-          let e : n .0 ≡ max unread (w .before + 1) = rw b in
+          let c : w .before .0 ≡ upTo (planColumns p q) (w .low .0) = rw a in
+          let d : w .end .0 ≡ upTo (planColumns p q) (w .high .0) = rw a in
+          let e : n .0 ≡ max unread (w .before .0 + 1) = rw b in
           (omega (arith, c, e), omega (arith, d))
 
 -- ## The code's records
@@ -80,7 +80,7 @@ module _ (n : tie.After-next-number) where
 
   -- what the code then chooses is what a look answers
   looks : let a = start clear .args in let p = planOf (start clear) in let next = n .next-number .result .0 in (r : Received) →
-      r ≡ cond (ltb (n .before .before .window-at .result .end) next) Received.Empty (found p (a .memory .now) (a .queue) next) →
+      r ≡ cond (ltb (n .before .before .window-at .result .end .0) next) Received.Empty (found p (a .memory .now) (a .queue) next) →
       r ≡ look (a .before .0) (getD (a .reading .now) (a .queue) 0) p (a .memory .now) (a .queue) (a .at .0)
   looks r e =
       let p = planOf (start clear) in
