@@ -1,6 +1,10 @@
 // Lower-case hexadecimal: the digits of a line as bytes, and bytes as digits.
-ghost use Rattle.common.specs.Words.{_≡_, [], _∷_, _+_, _*_, _≤_, _<_, length, sets};
-ghost use Rattle.digits.specs.Hex.{digit, mostBytes, decodedOf, decodedInto, letter, digits};
+use crate::values::value_in_table;
+use crate::values::value_reckoned;
+ghost use Rattle.common.specs.Words.{_≡_, [], _∷_, _+_, _*_, _%_, _≤_, _<_, max, length, sets};
+ghost use Rattle.common.specs.Rows.{every};
+ghost use Rattle.common.specs.Table.{table};
+ghost use Rattle.digits.specs.Hex.{mostBytes, pairAt, storedAt, decodedOf, decodedInto, letter, digits};
 
 // The longest line that is a frame, and the bytes that it holds.
 const LONGEST: usize = 100;
@@ -13,23 +17,64 @@ pub enum Decoded {
     Bad,
 }
 
-// A digit's value, 256 for any other byte. Both guesses are reckoned before one is chosen, so that no branch hangs on the digit, and in
-// 32 bits, which want no cutting back to a byte.
-fn value_of(c: u8) -> u32
-    ensures { λ r. ⌜ r ≡ digit c ⌝ }
+// A line of fewer pairs is looked up digit by digit; of a longer one many digits are reckoned at once.
+const MANY: usize = 16;
+
+fn larger(a: u8, b: u8) -> u8
+    ensures { λ r. ⌜ r ≡ max a b ⌝ }
 {
-    let wide = c as u32;
-    let decimal = std::num::wrapping_sub_u32(wide, b'0' as u32);
-    let letter = std::num::wrapping_sub_u32(wide, b'a' as u32);
-    let other = if letter < 6 { letter + 10 } else { 256 };
-    if decimal < 10 { decimal } else { other }
+    if a < b { b } else { a }
 }
 
-// The byte of two digits, 256 or more where one of them is none: one test tells.
-fn byte_of(high: u8, low: u8) -> u32
-    ensures { λ r. ⌜ r ≡ digit high * 16 + digit low ⌝ }
+// The byte of two digits; what does not fit is cut off, where one of them is none.
+fn byte_of(high: u8, low: u8) -> u8
+    ensures { λ r. ⌜ r ≡ (high * 16 + low) % 256 ⌝ }
 {
-    value_of(high) * 16 + value_of(low)
+    ((high as u32 * 16 + low as u32) % 256) as u8
+}
+
+// Puts the bytes of `n` pairs into the buffer and tells whether all of them are digits. That is tested once, behind the loop: the largest
+// value tells.
+fn decode_few(line: &[u8], bytes: &mut [u8], n: usize) -> bool
+    requires { ⌜ (2 * n ≤ length (now line)) × (n ≤ length (now bytes)) ⌝ }
+    ensures { λ r. ⌜ (r ≡ every (pairAt (now (line .entry))) n)
+        × (now (bytes .exit) ≡ sets (now (bytes .entry)) 0 (table (storedAt (now (line .entry))) n)) ⌝ }
+{
+    let mut most: u8 = 0;
+    for k in 0..n {
+        let high = value_in_table(line[2 * k]);
+        let low = value_in_table(line[2 * k + 1]);
+        bytes[k] = byte_of(high, low);
+        most = larger(most, larger(high, low));
+    }
+    most < 16
+}
+
+// The same, by values that are reckoned.
+fn decode_many(line: &[u8], bytes: &mut [u8], n: usize) -> bool
+    requires { ⌜ (2 * n ≤ length (now line)) × (n ≤ length (now bytes)) ⌝ }
+    ensures { λ r. ⌜ (r ≡ every (pairAt (now (line .entry))) n)
+        × (now (bytes .exit) ≡ sets (now (bytes .entry)) 0 (table (storedAt (now (line .entry))) n)) ⌝ }
+{
+    let mut most: u8 = 0;
+    for k in 0..n {
+        let high = value_reckoned(line[2 * k]);
+        let low = value_reckoned(line[2 * k + 1]);
+        bytes[k] = byte_of(high, low);
+        most = larger(most, larger(high, low));
+    }
+    most < 16
+}
+
+fn decode_pairs(line: &[u8], bytes: &mut [u8], n: usize) -> bool
+    requires { ⌜ (2 * n ≤ length (now line)) × (n ≤ length (now bytes)) ⌝ }
+    ensures { λ r. ⌜ (r ≡ every (pairAt (now (line .entry))) n)
+        × (now (bytes .exit) ≡ sets (now (bytes .entry)) 0 (table (storedAt (now (line .entry))) n)) ⌝ }
+{
+    if n < MANY {
+        return decode_few(line, bytes, n);
+    }
+    decode_many(line, bytes, n)
 }
 
 // The bytes of a line, from the buffer's start on.
@@ -44,14 +89,10 @@ pub fn decode(line: &[u8], bytes: &mut [u8]) -> Decoded
         return Decoded::Bad;
     }
     let n = line.len() / 2;
-    for k in 0..n {
-        let byte = byte_of(line[2 * k], line[2 * k + 1]);
-        if 255 < byte {
-            return Decoded::Bad;
-        }
-        bytes[k] = byte as u8;
+    if decode_pairs(line, bytes, n) {
+        return Decoded::Bytes(n);
     }
-    Decoded::Bytes(n)
+    Decoded::Bad
 }
 
 // The digit of a value below 16.

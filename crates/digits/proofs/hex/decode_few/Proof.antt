@@ -1,0 +1,58 @@
+-- `digits::hex::decode_few`: a turn decodes one pair more.
+use Rattle.common.specs.Words.{_-_, _≤_, _≡_, _∙_, ap, max, length, length-set, needs}
+use Rattle.digits.specs.HexLaws.{Passed, passed-none, passed-more, passed-all}
+use Rattle.digits.proofs.hex.decode_few.Statement.{statement}
+use Rattle.digits.proofs.hex.decode_few.Tie as tie
+
+abbrev Inv-loop : tie.InvT-loop
+Inv-loop line bytes₀ n most₀ k₀ bytes most k = (k ≤ n) × (length bytes ≡ length bytes₀) × Passed line bytes₀ k bytes most
+
+abbrev μ-loop : tie.MeasureT-loop
+μ-loop line bytes₀ n most₀ k₀ bytes most k = n - k
+
+loop-holds : tie.Need-loop-holds Inv-loop μ-loop
+loop-holds c = (search needs, search needs, passed-none _ _)
+
+loop-again : tie.Need-loop-again Inv-loop μ-loop
+loop-again c =
+    let byte = c .before .before in
+    let low = byte .before in
+    let high = low .before .before in
+    let l = high .before .before .before .loop in
+    let a = high .before .before .before .before .before .before .args in
+    let larger = c .larger2 .ensures ∙ ap (max (l .most)) (c .before .larger .ensures) in
+    let more = passed-more (a .line .now) (a .bytes .now) (l .bytes) (l .k) (l .most) (l .inv .2) in (
+      search needs,
+      simp length-set (l .inv .1),
+      rw larger (more _ _ _ (high .value-in-table .ensures) (low .value-in-table2 .ensures) (byte .byte-of .ensures)),
+    )
+
+returns : tie.Need-returns Inv-loop μ-loop
+returns c =
+    let l = c .before .loop in
+    let a = c .before .before .before .before .args in
+    passed-all (a .line .now) (a .bytes .now) (l .bytes) (l .k) (l .most) (l .inv .2) (a .n) (search needs)
+
+pub decode-few-spec : {M : Type 1} → statement M
+decode-few-spec =
+    tie.close
+    (tie.spec
+    Inv-loop
+    μ-loop
+    loop-holds
+    (λ c. search needs)
+    (λ c. search needs)
+    (λ c κs. search needs)
+    (λ c. search needs)
+    (λ c. search needs)
+    (λ c. search needs)
+    (λ c κs. search needs)
+    (λ c κs. search needs)
+    (λ c. search needs)
+    (λ c κs. search needs)
+    (λ c κs. search needs)
+    (λ c. search needs)
+    (λ c. search needs)
+    loop-again
+    (λ c. search needs)
+    returns)
