@@ -107,7 +107,7 @@ below-both a b n = go (lt-or-le a n) (lt-or-le b n)
     go (inr h) g = rw (le-ltb a n h, le-ltb (max a b) n (omega arith))
 
 module _ (line : List ℕ) where
-  -- what the loops that decode have after k pairs: the buffer holds what they leave, and the largest value among their digits tells
+  -- what the loop that decodes has after k pairs: the buffer holds what they leave, and the largest value among their digits tells
   -- whether all of them are digits
   pub Passed : List ℕ → ℕ → List ℕ → ℕ → Type 0
   Passed buffer k bytes most = (bytes ≡ sets buffer 0 (table (storedAt line) k)) × (ltb most noDigit ≡ every (pairAt line) k)

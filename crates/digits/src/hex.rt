@@ -1,10 +1,8 @@
 // Lower-case hexadecimal: the digits of a line as bytes, and bytes as digits.
-use crate::values::value_in_table;
-use crate::values::value_reckoned;
 ghost use Rattle.common.specs.Words.{_≡_, [], _∷_, _+_, _*_, _%_, _≤_, _<_, max, length, sets};
 ghost use Rattle.common.specs.Rows.{every};
 ghost use Rattle.common.specs.Table.{table};
-ghost use Rattle.digits.specs.Hex.{mostBytes, pairAt, storedAt, decodedOf, decodedInto, letter, digits};
+ghost use Rattle.digits.specs.Hex.{digit, mostBytes, pairAt, storedAt, decodedOf, decodedInto, letter, digits};
 
 // The longest line that is a frame, and the bytes that it holds.
 const LONGEST: usize = 100;
@@ -17,13 +15,14 @@ pub enum Decoded {
     Bad,
 }
 
-// A line of fewer pairs is looked up digit by digit; of a longer one many digits are reckoned at once.
-const MANY: usize = 16;
-
-fn larger(a: u8, b: u8) -> u8
-    ensures { λ r. ⌜ r ≡ max a b ⌝ }
+// A digit's value, 16 for any other byte. Both guesses are reckoned before one is chosen, so that no branch hangs on the digit.
+fn value_of(c: u8) -> u8
+    ensures { λ r. ⌜ r ≡ digit c ⌝ }
 {
-    if a < b { b } else { a }
+    let decimal = std::num::wrapping_sub_u8(c, b'0');
+    let letter = std::num::wrapping_sub_u8(c, b'a');
+    let other = if letter < 6 { letter + 10 } else { 16 };
+    if decimal < 10 { decimal } else { other }
 }
 
 // The byte of two digits; what does not fit is cut off, where one of them is none.
@@ -33,48 +32,27 @@ fn byte_of(high: u8, low: u8) -> u8
     ((high as u32 * 16 + low as u32) % 256) as u8
 }
 
-// Puts the bytes of `n` pairs into the buffer and tells whether all of them are digits. That is tested once, behind the loop: the largest
-// value tells.
-fn decode_few(line: &[u8], bytes: &mut [u8], n: usize) -> bool
-    requires { ⌜ (2 * n ≤ length (now line)) × (n ≤ length (now bytes)) ⌝ }
-    ensures { λ r. ⌜ (r ≡ every (pairAt (now (line .entry))) n)
-        × (now (bytes .exit) ≡ sets (now (bytes .entry)) 0 (table (storedAt (now (line .entry))) n)) ⌝ }
+fn larger(a: u8, b: u8) -> u8
+    ensures { λ r. ⌜ r ≡ max a b ⌝ }
 {
-    let mut most: u8 = 0;
-    for k in 0..n {
-        let high = value_in_table(line[2 * k]);
-        let low = value_in_table(line[2 * k + 1]);
-        bytes[k] = byte_of(high, low);
-        most = larger(most, larger(high, low));
-    }
-    most < 16
+    if a < b { b } else { a }
 }
 
-// The same, by values that are reckoned.
-fn decode_many(line: &[u8], bytes: &mut [u8], n: usize) -> bool
-    requires { ⌜ (2 * n ≤ length (now line)) × (n ≤ length (now bytes)) ⌝ }
-    ensures { λ r. ⌜ (r ≡ every (pairAt (now (line .entry))) n)
-        × (now (bytes .exit) ≡ sets (now (bytes .entry)) 0 (table (storedAt (now (line .entry))) n)) ⌝ }
-{
-    let mut most: u8 = 0;
-    for k in 0..n {
-        let high = value_reckoned(line[2 * k]);
-        let low = value_reckoned(line[2 * k + 1]);
-        bytes[k] = byte_of(high, low);
-        most = larger(most, larger(high, low));
-    }
-    most < 16
-}
-
+// Puts the bytes of `n` pairs into the buffer and tells whether all of them are digits. That is tested once, behind the loop, where the
+// largest value tells: a loop without a way out is compiled to instructions that take sixteen pairs at once.
 fn decode_pairs(line: &[u8], bytes: &mut [u8], n: usize) -> bool
     requires { ⌜ (2 * n ≤ length (now line)) × (n ≤ length (now bytes)) ⌝ }
     ensures { λ r. ⌜ (r ≡ every (pairAt (now (line .entry))) n)
         × (now (bytes .exit) ≡ sets (now (bytes .entry)) 0 (table (storedAt (now (line .entry))) n)) ⌝ }
 {
-    if n < MANY {
-        return decode_few(line, bytes, n);
+    let mut most: u8 = 0;
+    for k in 0..n {
+        let high = value_of(line[2 * k]);
+        let low = value_of(line[2 * k + 1]);
+        bytes[k] = byte_of(high, low);
+        most = larger(most, larger(high, low));
     }
-    decode_many(line, bytes, n)
+    most < 16
 }
 
 // The bytes of a line, from the buffer's start on.

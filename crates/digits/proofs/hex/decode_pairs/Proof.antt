@@ -1,8 +1,8 @@
--- `digits::hex::decode_many`: a turn decodes one pair more, as in `decode_few`.
+-- `digits::hex::decode_pairs`: a turn decodes one pair more.
 use Rattle.common.specs.Words.{_-_, _≤_, _≡_, _∙_, ap, max, length, length-set, needs}
 use Rattle.digits.specs.HexLaws.{Passed, passed-none, passed-more, passed-all}
-use Rattle.digits.proofs.hex.decode_many.Statement.{statement}
-use Rattle.digits.proofs.hex.decode_many.Tie as tie
+use Rattle.digits.proofs.hex.decode_pairs.Statement.{statement}
+use Rattle.digits.proofs.hex.decode_pairs.Tie as tie
 
 abbrev Inv-loop : tie.InvT-loop
 Inv-loop line bytes₀ n most₀ k₀ bytes most k = (k ≤ n) × (length bytes ≡ length bytes₀) × Passed line bytes₀ k bytes most
@@ -24,7 +24,7 @@ loop-again c =
     let more = passed-more (a .line .now) (a .bytes .now) (l .bytes) (l .k) (l .most) (l .inv .2) in (
       search needs,
       simp length-set (l .inv .1),
-      rw larger (more _ _ _ (high .value-reckoned .ensures) (low .value-reckoned2 .ensures) (byte .byte-of .ensures)),
+      rw larger (more _ _ _ (high .value-of .ensures) (low .value-of2 .ensures) (byte .byte-of .ensures)),
     )
 
 returns : tie.Need-returns Inv-loop μ-loop
@@ -33,8 +33,8 @@ returns c =
     let a = c .before .before .before .before .args in
     passed-all (a .line .now) (a .bytes .now) (l .bytes) (l .k) (l .most) (l .inv .2) (a .n) (search needs)
 
-pub decode-many-spec : {M : Type 1} → statement M
-decode-many-spec =
+pub decode-pairs-spec : {M : Type 1} → statement M
+decode-pairs-spec =
     tie.close
     (tie.spec
     Inv-loop

@@ -1,8 +1,8 @@
--- `digits::values::value_reckoned`: a decimal digit, a letter, or neither.
+-- `digits::hex::value_of`: a decimal digit, a letter, or neither.
 use Rattle.common.specs.Words.{needs, ⊎-elim, _∙_}
 use Rattle.digits.specs.HexLaws.{digit-decimal, digit-letter, digit-none}
-use Rattle.digits.proofs.values.value_reckoned.Statement.{statement}
-use Rattle.digits.proofs.values.value_reckoned.Tie as tie
+use Rattle.digits.proofs.hex.value_of.Statement.{statement}
+use Rattle.digits.proofs.hex.value_of.Tie as tie
 
 returns : tie.Need-returns
 returns c =
@@ -21,8 +21,8 @@ returns-2 c =
     (c .if2 .left) (search needs) (w .0 .left) (search needs))
     (c .before .if1 .came)
 
-pub value-reckoned-spec : {M : Type 1} → statement M
-value-reckoned-spec =
+pub value-of-spec : {M : Type 1} → statement M
+value-of-spec =
     tie.close
     (tie.spec
     (λ c κs. search needs)
