@@ -1,8 +1,9 @@
 -- Laws of digits: a line of whole pairs, the buffer after decoding, and how many digits bytes take.
-use Rattle.common.specs.Words.{ℕ, zero, suc, _+_, _*_, _/_, _%_, _^_, _<_, _≤_, max, arith, add-one, Bool, true, false, cond, _&&_}
+use Rattle.common.specs.Words.{ℕ, zero, suc, _+_, _*_, _/_, _%_, _^_, _<_, _≤_, arith, add-one, Bool, true, false, cond, _&&_}
 use Rattle.common.specs.Words.{List, [], _∷_, _++_, inl, inr, _⊎_, _≡_, refl, sym, ap, subst, _∙_, leb, ltb, length, getD, take, set, sets}
 use Rattle.common.specs.Words.{length-set, length-sets, length-take-le, take-suc, lt-ltb, le-ltb, le-leb, lt-leb, eq-eqb, ne-eqb}
 use Rattle.common.specs.Words.{ltb-true, leb-true, eqb-true}
+use lib.Bits.{bitOr, or-lt, or-add-and, and-le-l, and-le-r}
 use Rattle.common.specs.Tests.{lt-or-le, having, and-left, and-right}
 use Rattle.common.specs.Rows.{every, every-none, every-at}
 use Rattle.common.specs.Table.{table, table-length}
@@ -97,37 +98,38 @@ digits-more bytes l at k h =
 
 -- ## Decoding
 
--- the larger of two numbers is below a bound where both are
-below-both : (a b n : ℕ) → ltb (max a b) n ≡ (ltb a n && ltb b n)
-below-both a b n = go (lt-or-le a n) (lt-or-le b n)
+-- two values have no bit beyond the low four where neither has one
+below-both : (a b : ℕ) → ltb (bitOr a b) noDigit ≡ (ltb a noDigit && ltb b noDigit)
+below-both a b = go (lt-or-le a noDigit) (lt-or-le b noDigit)
   where
-    go : (a < n) ⊎ (n ≤ a) → (b < n) ⊎ (n ≤ b) → ltb (max a b) n ≡ (ltb a n && ltb b n)
-    go (inl h) (inl g) = rw (lt-ltb a n h, lt-ltb b n g, lt-ltb (max a b) n (omega arith))
-    go (inl h) (inr g) = rw (lt-ltb a n h, le-ltb b n g, le-ltb (max a b) n (omega arith))
-    go (inr h) g = rw (le-ltb a n h, le-ltb (max a b) n (omega arith))
+    go : (a < noDigit) ⊎ (noDigit ≤ a) → (b < noDigit) ⊎ (noDigit ≤ b) → ltb (bitOr a b) noDigit ≡ (ltb a noDigit && ltb b noDigit)
+    go (inl h) (inl g) = rw (lt-ltb a noDigit h, lt-ltb b noDigit g, lt-ltb (bitOr a b) noDigit (or-lt 4 a b h g))
+    go (inl h) (inr g) =
+        rw (lt-ltb a noDigit h, le-ltb b noDigit g, le-ltb (bitOr a b) noDigit (omega (arith, or-add-and a b, and-le-l a b)))
+    go (inr h) g = rw (le-ltb a noDigit h, le-ltb (bitOr a b) noDigit (omega (arith, or-add-and a b, and-le-r a b)))
 
 module _ (line : List ℕ) where
-  -- what the loop that decodes has after k pairs: the buffer holds what they leave, and the largest value among their digits tells
-  -- whether all of them are digits
+  -- what the loop that decodes has after k pairs: the buffer holds what they leave, and the bits of all their values tell whether all
+  -- of them are digits
   pub Passed : List ℕ → ℕ → List ℕ → ℕ → Type 0
-  Passed buffer k bytes most = (bytes ≡ sets buffer 0 (table (storedAt line) k)) × (ltb most noDigit ≡ every (pairAt line) k)
+  Passed buffer k bytes bits = (bytes ≡ sets buffer 0 (table (storedAt line) k)) × (ltb bits noDigit ≡ every (pairAt line) k)
 
   pub passed-none : (buffer : List ℕ) → Passed buffer 0 buffer 0
   unfolding Passed table
   passed-none buffer = (refl, sym (every-none (pairAt line)))
 
-  module _ (buffer bytes : List ℕ) (k most : ℕ) (p : Passed buffer k bytes most) where
+  module _ (buffer bytes : List ℕ) (k bits : ℕ) (p : Passed buffer k bytes bits) where
     pub passed-more :
         (high low byte : ℕ) → high ≡ digit (getD line (2 * k) 0) → low ≡ digit (getD line (2 * k + 1) 0) →
         byte ≡ (high * 16 + low) % 256 →
-        Passed buffer (k + 1) (set bytes k byte) (max most (max high low))
+        Passed buffer (k + 1) (set bytes k byte) (bitOr (bitOr bits high) low)
     unfolding Passed every
     passed-more high low byte eh el eb = (
       rw (p .0, eb, eh, el) (sets-table (storedAt line) buffer k),
-      rw (add-one k, below-both most (max high low) noDigit, below-both high low noDigit, p .1, eh, el),
+      rw (add-one k, below-both (bitOr bits high) low, below-both bits high, p .1, eh, el) (and-assoc (every (pairAt line) k) _ _),
     )
 
-    pub passed-all : (n : ℕ) → k ≡ n → (ltb most noDigit ≡ every (pairAt line) n) × (bytes ≡ sets buffer 0 (table (storedAt line) n))
+    pub passed-all : (n : ℕ) → k ≡ n → (ltb bits noDigit ≡ every (pairAt line) n) × (bytes ≡ sets buffer 0 (table (storedAt line) n))
     unfolding Passed
     passed-all n e = (rw e at (p .1), rw e at (p .0))
 

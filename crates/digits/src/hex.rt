@@ -1,5 +1,5 @@
 // Lower-case hexadecimal: the digits of a line as bytes, and bytes as digits.
-ghost use Rattle.common.specs.Words.{_≡_, [], _∷_, _+_, _*_, _%_, _≤_, _<_, max, length, sets};
+ghost use Rattle.common.specs.Words.{_≡_, [], _∷_, _+_, _*_, _%_, _≤_, _<_, length, sets};
 ghost use Rattle.common.specs.Rows.{every};
 ghost use Rattle.common.specs.Table.{table};
 ghost use Rattle.digits.specs.Hex.{digit, mostBytes, pairAt, storedAt, decodedOf, decodedInto, letter, digits};
@@ -32,27 +32,21 @@ fn byte_of(high: u8, low: u8) -> u8
     ((high as u32 * 16 + low as u32) % 256) as u8
 }
 
-fn larger(a: u8, b: u8) -> u8
-    ensures { λ r. ⌜ r ≡ max a b ⌝ }
-{
-    if a < b { b } else { a }
-}
-
-// Puts the bytes of `n` pairs into the buffer and tells whether all of them are digits. That is tested once, behind the loop, where the
-// largest value tells: a loop without a way out is compiled to instructions that take sixteen pairs at once.
+// Puts the bytes of `n` pairs into the buffer and tells whether all of them are digits. That is tested once, behind the loop, by the bits
+// of all values: a loop without a way out is compiled to instructions that take sixteen pairs at once.
 fn decode_pairs(line: &[u8], bytes: &mut [u8], n: usize) -> bool
     requires { ⌜ (2 * n ≤ length (now line)) × (n ≤ length (now bytes)) ⌝ }
     ensures { λ r. ⌜ (r ≡ every (pairAt (now (line .entry))) n)
         × (now (bytes .exit) ≡ sets (now (bytes .entry)) 0 (table (storedAt (now (line .entry))) n)) ⌝ }
 {
-    let mut most: u8 = 0;
+    let mut bits: u8 = 0;
     for k in 0..n {
         let high = value_of(line[2 * k]);
         let low = value_of(line[2 * k + 1]);
         bytes[k] = byte_of(high, low);
-        most = larger(most, larger(high, low));
+        bits = bits | high | low;
     }
-    most < 16
+    bits < 16
 }
 
 // The bytes of a line, from the buffer's start on.
