@@ -1,0 +1,5 @@
+-- The pages of this crate's definitions and laws.
+pub mod Types
+pub mod Said
+pub mod Log
+pub mod Example
