@@ -2,4 +2,8 @@
 pub mod Types
 pub mod Said
 pub mod Log
+pub mod Fields
+pub mod Lines
+pub mod Widths
+pub mod ReadBack
 pub mod Example
