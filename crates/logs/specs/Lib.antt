@@ -6,4 +6,6 @@ pub mod Fields
 pub mod Lines
 pub mod Widths
 pub mod ReadBack
+pub mod Turns
+pub mod Entries
 pub mod Example

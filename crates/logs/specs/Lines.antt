@@ -132,3 +132,7 @@ sizes-back sizes n h =
     omega (arith, bytes-half bytes, length-append (inBytes 1 0x81) (eachSize sizes n), bytes-length 1 0x81, sizes-length sizes n) in
     rw (code-back 0x81 (eachSize sizes n) (omega arith), many)
     (ap (λ (t : List ℕ). (0x81, t)) (table-same _ (λ q. getD sizes q 0) n (λ q l. size-back sizes n q l (h q l))))
+
+pub bad-code : codeIn (lineOf badBytes) ≡ 0x7f
+unfolding badBytes lineOf bytesIn digits digit valueAt inBytes table
+bad-code = refl

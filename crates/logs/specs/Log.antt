@@ -5,6 +5,7 @@ use Rattle.model.specs.Model.{senderOf}
 use Rattle.plan.specs.Limits.{lastTick}
 use Rattle.plan.specs.Plan.{queueAt}
 use Rattle.mailbox.specs.Calls.{receivingJob}
+use Rattle.history.specs.History.{Call, send, receive}
 use Rattle.frames.specs.Answers.{messageBytes, gapBytes, lineOf}
 use Rattle.console.specs.Desk.{newDesk}
 use Rattle.feed.specs.Answers.{World, next, reply, worldAfter}
@@ -33,6 +34,22 @@ sessionLog m lines = logOf (opened m) lines
 
 abbrev pub deskAfter : List ℕ → List (List ℕ) → Desk
 deskAfter m lines = worldAfter (opened m) lines .desk
+
+-- ## The calls
+
+-- the call that a line makes on a desk that runs; any other line makes none
+abbrev pub callOf : List ℕ → Frame → List Call
+callOf payload (Frame.Send q i t) = send q i (t .0) payload ∷ []
+callOf payload (Frame.Receive q t) = receive q (t .0) ∷ []
+callOf payload (Frame.Task period deadline) = []
+callOf payload (Frame.Queue receiver mask) = []
+callOf payload Frame.Go = []
+callOf payload Frame.Bad = []
+
+-- the calls of lines, one after another
+abbrev pub callsIn : List (List ℕ) → List Call
+callsIn [] = []
+callsIn (l ∷ ls) = callOf (payloadOf l) (frameIn l) ++ callsIn ls
 
 -- ## What was stored
 
