@@ -8,4 +8,5 @@ pub mod Widths
 pub mod ReadBack
 pub mod Turns
 pub mod Entries
+pub mod Follows
 pub mod Example

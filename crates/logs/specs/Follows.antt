@@ -1,0 +1,226 @@
+-- A session follows a history: from the accepted 03 on, the desk, the memory and the log are those of the calls that the lines make.
+use Rattle.common.specs.Words.{ℕ, arith, Bool, true, false, List, [], _∷_, _++_, append-assoc, append-nil, map, _⊎_, inl, inr, _↔_, _≡_, refl, sym}
+use Rattle.common.specs.Words.{ap, subst, _∙_}
+use Rattle.plan.specs.Plan.{queueAt}
+use Rattle.planning.specs.Accepted.{Made}
+use Rattle.mailbox.specs.Calls.{fresh, startAnswer, startMemory, sendAnswer, sendState, sendMemory, look, receiveState, receivingJob}
+use Rattle.frames.specs.Answers.{badBytes, lineOf}
+use Rattle.console.specs.Framing.{line-framed}
+use Rattle.console.specs.Desk.{Turn, says, newDesk, withRun, withState, sentBytes, filler, receivedBytes, frameTurn, bytesTurn, lineTurn}
+use Rattle.feed.specs.Answers as feed
+use Rattle.history.specs.History.{Call, send, receive, World, History, start, _then_, same, more, Begins, after, world, sendSays, receiveSays}
+use Rattle.history.specs.History.{goOn, history, SentIn, Sends, Reading, reads, readBy, ReadToEnd}
+use Rattle.history.specs.Lists.{goOn-append}
+use Rattle.logs.specs.Types.{Tick, Plan, Started, Received, Frame, Desk}
+use Rattle.logs.specs.Said.{frameIn, payloadOf}
+use Rattle.logs.specs.Log.{Entry, Log, logOf, opened, callOf, callsIn, Stores, StoredIn, linesTo, Ends, EndedIn}
+use Rattle.logs.specs.Turns.{Acts, sends, receives, idles, running-acts, Quiet, Waits, starts, waits, waiting}
+use Rattle.logs.specs.Entries.{stored-append, ended-append, lines-append, quiet-stores, quiet-ends, quiet-lines, lineFor}
+use Rattle.logs.specs.Entries.{sent-stores, sent-ends, sent-lines, received-stores, received-empty, received-lines}
+
+-- the desk's own part of a world, as a history has it
+abbrev pub carried : feed.World → World
+carried w = record { state = w .desk .state; memory = w .memory }
+
+-- plan p was started on memory m, the calls H were made since then, and the log shows what they came to
+pub record Runs (p : Plan) (m : List ℕ) (H : History) (w : feed.World) (log : Log) : Type 0 where
+  pub on : w .desk .running ≡ true
+  pub plan-is : w .desk .plan ≡ p
+  pub world-is : carried w ≡ world p m H
+  pub stored : (q n : ℕ) (payload : List ℕ) → StoredIn log q n payload ↔ SentIn p m H q n payload
+  pub told : (q k : ℕ) → linesTo p q k log ≡ map lineFor (readBy p m filler H q k)
+  pub ended : (q k : ℕ) → EndedIn p q k log → ReadToEnd p m H q k
+
+-- ## One line more
+
+abbrev nextBy : Turn → feed.World
+nextBy t = record { desk = t .desk; memory = t .memory }
+
+abbrev entryBy : List ℕ → Turn → Entry
+entryBy line t = record { line = line; answer = t .answer }
+
+map-append : {A B : Type 0} (f : A → B) (xs ys : List A) → map f (xs ++ ys) ≡ map f xs ++ map f ys
+map-append f [] ys = refl
+map-append f (x ∷ xs) ys = rw (map-append f xs ys)
+
+-- a log of one line more, and a history of one call more
+grow : {A B C D E : Type 0} → A ↔ (B ⊎ (C ⊎ ⊥)) → B ↔ D → C ↔ E → A ↔ (D ⊎ E)
+grow {A} {B} {C} {D} {E} e f g = (λ a. to (e .0 a), λ x. e .1 (from x))
+  where
+    to : B ⊎ (C ⊎ ⊥) → D ⊎ E
+    to (inl b) = inl (f .0 b)
+    to (inr (inl c)) = inr (g .0 c)
+    to (inr (inr x)) = absurd x
+
+    from : D ⊎ E → B ⊎ (C ⊎ ⊥)
+    from (inl d) = inl (f .1 d)
+    from (inr x) = inr (inl (g .1 x))
+
+module _ {p : Plan} {m : List ℕ} {H : History} {w : feed.World} {log : Log} (r : Runs p m H w log) (line : List ℕ) where
+  abbrev d : Desk
+  d = w .desk
+
+  abbrev payload : List ℕ
+  payload = payloadOf line
+
+  abbrev Goal : Frame → Turn → Type 0
+  Goal f t = Runs p m (goOn H (callOf payload f)) (nextBy t) (log ++ (entryBy line t ∷ []))
+
+  still-ended : {c : Call} {q k : ℕ} → ReadToEnd p m H q k → ReadToEnd p m (H then c) q k
+  still-ended e = record { before = e .before; t = e .t; within = more (e .within); job = e .job; answer = e .answer }
+
+  end-at : {q s t u k : ℕ} → q ≡ s → t ≡ u → receiveSays p (world p m H) q t ≡ Received.Empty → receivingJob (queueAt p s) u ≡ k →
+      ReadToEnd p m (H then receive q t) s k
+  end-at {q} {s} {t} {u} {k} e f a j =
+      subst (λ (x : ℕ). ReadToEnd p m (H then receive x t) s k) (sym e)
+      (subst (λ (x : ℕ). ReadToEnd p m (H then receive s x) s k) (sym f)
+      (record { before = H; t = u; within = same; job = j; answer = rw (← e, ← f) a }))
+
+  -- a call's line
+  module _ (c : Call) (t : Turn) (running : t .desk .running ≡ true) (plan : t .desk .plan ≡ p) (now : carried (nextBy t) ≡ after p (world p m H) c)
+      (stores : (q n : ℕ) (b : List ℕ) → Stores q n b (entryBy line t) ↔ Sends p (world p m H) c q n b)
+      (tells : (q k : ℕ) → linesTo p q k (entryBy line t ∷ []) ≡ map lineFor (reads p filler (world p m H) c q k))
+      (ends : (q k : ℕ) → Ends p q k (entryBy line t) → ReadToEnd p m (H then c) q k) where
+    call-runs : Runs p m (H then c) (nextBy t) (log ++ (entryBy line t ∷ []))
+    call-runs = record {
+      on = running;
+      plan-is = plan;
+      world-is = now;
+      stored = λ q n b. grow (stored-append log (entryBy line t ∷ []) q n b) (r .stored q n b) (stores q n b);
+      told = λ q k.
+          lines-append p q k log (entryBy line t ∷ []) ∙ rw (r .told q k, tells q k)
+          (sym (map-append lineFor (readBy p m filler H q k) (reads p filler (world p m H) c q k)));
+      ended = λ q k s. go q k (ended-append p q k log (entryBy line t ∷ []) s);
+    }
+      where
+        go : (q k : ℕ) → EndedIn p q k log ⊎ EndedIn p q k (entryBy line t ∷ []) → ReadToEnd p m (H then c) q k
+        go q k (inl s) = still-ended (r .ended q k s)
+        go q k (inr (inl s)) = ends q k s
+        go q k (inr (inr x)) = absurd x
+
+  -- a line that makes no call
+  idle-quiet : (f : Frame) → callOf payload f ≡ [] → (answer : List ℕ) → Quiet f answer
+  idle-quiet (Frame.Send q i t) e answer = absurd (let z : _≡_ {A = ℕ} 0 1 = cc in omega arith)
+  idle-quiet (Frame.Receive q t) e answer = absurd (let z : _≡_ {A = ℕ} 0 1 = cc in omega arith)
+  idle-quiet (Frame.Task period deadline) e answer = tt
+  idle-quiet (Frame.Queue receiver mask) e answer = tt
+  idle-quiet Frame.Go e answer = tt
+  idle-quiet Frame.Bad e answer = tt
+
+  idle-runs : (answer : List ℕ) → Quiet (frameIn line) answer → Runs p m H w (log ++ (record { line = line; answer = answer } ∷ []))
+  idle-runs answer quiet = record {
+    on = r .on;
+    plan-is = r .plan-is;
+    world-is = r .world-is;
+    stored = λ q n b. (λ s. from q n b (stored-append log (e ∷ []) q n b .0 s), λ s. stored-append log (e ∷ []) q n b .1 (inl (r .stored q n b .1 s)));
+    told = λ q k. lines-append p q k log (e ∷ []) ∙ rw (quiet-lines e quiet p q k) (append-nil (linesTo p q k log) ∙ r .told q k);
+    ended = λ q k s. go q k (ended-append p q k log (e ∷ []) s);
+  }
+    where
+      e : Entry
+      e = record { line = line; answer = answer }
+
+      from : (q n : ℕ) (b : List ℕ) → StoredIn log q n b ⊎ StoredIn (e ∷ []) q n b → SentIn p m H q n b
+      from q n b (inl s) = r .stored q n b .0 s
+      from q n b (inr (inl s)) = absurd (quiet-stores e quiet q n b s)
+      from q n b (inr (inr x)) = absurd x
+
+      go : (q k : ℕ) → EndedIn p q k log ⊎ EndedIn p q k (e ∷ []) → ReadToEnd p m H q k
+      go q k (inl s) = r .ended q k s
+      go q k (inr (inl s)) = absurd (quiet-ends e quiet p q k s)
+      go q k (inr (inr x)) = absurd x
+
+  -- a 04
+  module _ (q i : ℕ) (t : Tick) (asked : frameIn line ≡ Frame.Send q i t) where
+    abbrev sendingTurn : Turn
+    sendingTurn =
+        says (withState d (sendState (d .state) (d .plan) (w .memory) q i (t .0) payload)) (sendMemory (d .state) (d .plan) (w .memory) q i (t .0) payload)
+        (sentBytes (sendAnswer (d .state) (d .plan) (w .memory) q i (t .0) payload))
+
+    abbrev sendCall : Call
+    sendCall = send q i (t .0) payload
+
+    sent-now : carried (nextBy sendingTurn) ≡ after p (world p m H) sendCall
+    unfolding withState after
+    sent-now =
+        subst
+        (λ (x : Plan).
+        _≡_ {A = World}
+        (record { state = sendState (d .state) x (w .memory) q i (t .0) payload; memory = sendMemory (d .state) x (w .memory) q i (t .0) payload })
+        (after p (world p m H) sendCall))
+        (sym (r .plan-is)) (ap (λ (x : World). after p x sendCall) (r .world-is))
+
+    sent-answer : sendingTurn .answer ≡ lineOf (sentBytes (sendSays p (world p m H) q i (t .0) payload))
+    sent-answer =
+        ap (λ (x : Plan). lineOf (sentBytes (sendAnswer (d .state) x (w .memory) q i (t .0) payload))) (r .plan-is)
+        ∙ ap (λ (x : World). lineOf (sentBytes (sendSays p x q i (t .0) payload))) (r .world-is)
+
+    send-runs : Goal (Frame.Send q i t) sendingTurn
+    unfolding withState
+    send-runs =
+        let e : Entry = entryBy line sendingTurn in
+        call-runs sendCall sendingTurn (r .on) (r .plan-is) sent-now (sent-stores p (world p m H) e q i t asked sent-answer)
+        (sent-lines p (world p m H) e q i t asked sent-answer)
+        (λ s k x. absurd (sent-ends p (world p m H) e q i t asked sent-answer s k x))
+
+  -- a 05
+  module _ (q : ℕ) (t : Tick) (asked : frameIn line ≡ Frame.Receive q t) where
+    abbrev receivingTurn : Turn
+    receivingTurn =
+        says (withState d (receiveState (d .state) (d .plan) (w .memory) q (t .0))) (w .memory)
+        (receivedBytes (w .memory) (look (d .state) (d .plan) (w .memory) q (t .0)))
+
+    abbrev receiveCall : Call
+    receiveCall = receive q (t .0)
+
+    received-now : carried (nextBy receivingTurn) ≡ after p (world p m H) receiveCall
+    unfolding withState after
+    received-now =
+        subst
+        (λ (x : Plan).
+        _≡_ {A = World} (record { state = receiveState (d .state) x (w .memory) q (t .0); memory = w .memory }) (after p (world p m H) receiveCall))
+        (sym (r .plan-is)) (ap (λ (x : World). after p x receiveCall) (r .world-is))
+
+    received-answer : receivingTurn .answer ≡ lineOf (receivedBytes (world p m H .memory) (receiveSays p (world p m H) q (t .0)))
+    received-answer =
+        ap (λ (x : Plan). lineOf (receivedBytes (w .memory) (look (d .state) x (w .memory) q (t .0)))) (r .plan-is)
+        ∙ ap (λ (x : World). lineOf (receivedBytes (x .memory) (receiveSays p x q (t .0)))) (r .world-is)
+
+    receive-runs : Goal (Frame.Receive q t) receivingTurn
+    unfolding withState
+    receive-runs =
+        let e : Entry = entryBy line receivingTurn in
+        call-runs receiveCall receivingTurn (r .on) (r .plan-is) received-now
+        (λ s n b. (λ x. absurd (received-stores p (world p m H) e q t asked received-answer s n b x), λ x. elim x [ ]))
+        (received-lines p (world p m H) e q t asked received-answer)
+        (λ s k x.
+        let queue : q ≡ s = cc in
+        let at : t ≡ x .tick = cc in
+        end-at queue (ap (λ (y : Tick). y .0) at) (received-empty p (world p m H) e q t asked received-answer (x .told)) (x .job))
+
+  acts : {f : Frame} {t : Turn} → frameIn line ≡ f → Acts d (w .memory) payload f t → Goal f t
+  acts asked (sends {q = q} {i = i} {t = t}) = send-runs q i t asked
+  acts asked (receives {q = q} {t = t}) = receive-runs q t asked
+  acts {f} asked (idles e) =
+      let answer : List ℕ = lineOf badBytes in
+      subst (λ (cs : List Call). Runs p m (goOn H cs) w (log ++ (record { line = line; answer = answer } ∷ []))) (sym e)
+      (idle-runs answer (subst (λ (g : Frame). Quiet g answer) (sym asked) (idle-quiet f e answer)))
+
+  pub run-line : Runs p m (goOn H (callOf payload (frameIn line))) (feed.next w line) (log ++ (record { line = line; answer = feed.reply w line } ∷ []))
+  unfolding bytesTurn
+  run-line =
+      subst (Goal (frameIn line)) (sym (line-framed d (w .memory) line)) (acts refl (running-acts d (w .memory) payload (frameIn line) (r .on)))
+
+-- ## Lines one after another
+
+pub run-lines : {p : Plan} {m : List ℕ} {H : History} {w : feed.World} {log : Log} → Runs p m H w log → (ls : List (List ℕ)) →
+    Runs p m (goOn H (callsIn ls)) (feed.worldAfter w ls) (log ++ logOf w ls)
+unfolding feed.worldAfter logOf
+run-lines {p} {m} {H} {w} {log} r [] = subst (λ (x : Log). Runs p m H w x) (sym (append-nil log)) r
+run-lines {p} {m} {H} {w} {log} r (l ∷ ls) =
+    let e : Entry = record { line = l; answer = feed.reply w l } in
+    let calls : List Call = callOf (payloadOf l) (frameIn l) in
+    subst (λ (x : Log). Runs p m (goOn H (calls ++ callsIn ls)) (feed.worldAfter (feed.next w l) ls) x)
+    (append-assoc log (e ∷ []) (logOf (feed.next w l) ls))
+    (subst (λ (K : History). Runs p m K (feed.worldAfter (feed.next w l) ls) ((log ++ (e ∷ [])) ++ logOf (feed.next w l) ls))
+    (sym (goOn-append H calls (callsIn ls))) (run-lines (run-line r l) ls))
