@@ -4,7 +4,7 @@ use Rattle.common.specs.Words.{ap, subst, _∙_}
 use Rattle.plan.specs.Plan.{queueAt}
 use Rattle.planning.specs.Accepted.{Made}
 use Rattle.mailbox.specs.Calls.{fresh, startAnswer, startMemory, sendAnswer, sendState, sendMemory, look, receiveState, receivingJob}
-use Rattle.frames.specs.Answers.{badBytes, lineOf}
+use Rattle.frames.specs.Answers.{sizesBytes, badBytes, lineOf}
 use Rattle.console.specs.Framing.{line-framed}
 use Rattle.console.specs.Desk.{Turn, says, newDesk, withRun, withState, sentBytes, filler, receivedBytes, frameTurn, bytesTurn, lineTurn}
 use Rattle.feed.specs.Answers as feed
@@ -224,3 +224,101 @@ run-lines {p} {m} {H} {w} {log} r (l ∷ ls) =
     (append-assoc log (e ∷ []) (logOf (feed.next w l) ls))
     (subst (λ (K : History). Runs p m K (feed.worldAfter (feed.next w l) ls) ((log ++ (e ∷ [])) ++ logOf (feed.next w l) ls))
     (sym (goOn-append H calls (callsIn ls))) (run-lines (run-line r l) ls))
+
+-- ## Before the accepted 03
+
+-- a log that shows nothing of a run
+record Silent (log : Log) : Type 0 where
+  no-store : (q n : ℕ) (payload : List ℕ) → StoredIn log q n payload → ⊥
+  no-line : (p : Plan) (q k : ℕ) → linesTo p q k log ≡ []
+  no-end : (p : Plan) (q k : ℕ) → EndedIn p q k log → ⊥
+
+silent-none : Silent []
+unfolding linesTo
+silent-none = record { no-store = λ q n payload s. s; no-line = λ p q k. refl; no-end = λ p q k s. s }
+
+silent-more : {log : Log} → Silent log → (e : Entry) → Quiet (frameIn (e .line)) (e .answer) → Silent (log ++ (e ∷ []))
+silent-more {log} h e quiet = record {
+  no-store = λ q n payload s. store q n payload (stored-append log (e ∷ []) q n payload .0 s);
+  no-line = λ p q k. lines-append p q k log (e ∷ []) ∙ rw (h .no-line p q k) (quiet-lines e quiet p q k);
+  no-end = λ p q k s. end p q k (ended-append p q k log (e ∷ []) s);
+}
+  where
+    store : (q n : ℕ) (payload : List ℕ) → StoredIn log q n payload ⊎ StoredIn (e ∷ []) q n payload → ⊥
+    store q n payload (inl s) = h .no-store q n payload s
+    store q n payload (inr (inl s)) = quiet-stores e quiet q n payload s
+    store q n payload (inr (inr x)) = x
+
+    end : (p : Plan) (q k : ℕ) → EndedIn p q k log ⊎ EndedIn p q k (e ∷ []) → ⊥
+    end p q k (inl s) = h .no-end p q k s
+    end p q k (inr (inl s)) = quiet-ends e quiet p q k s
+    end p q k (inr (inr x)) = x
+
+-- Lines from a desk that does not run: it never runs, or one of them is the accepted 03, and the rest are a history.
+pub data Comes (m : List ℕ) (w : feed.World) (log : Log) (ls : List (List ℕ)) : Type 0 where
+  never : feed.worldAfter w ls .desk .running ≡ false → Comes m w log ls
+  started : (p : Plan) (before since : List (List ℕ)) (go : List ℕ) → ls ≡ before ++ (go ∷ since) → frameIn go ≡ Frame.Go → Made p → Begins p m →
+      Runs p m (history (callsIn since)) (feed.worldAfter w ls) (log ++ logOf w ls) → Comes m w log ls
+
+module _ (m : List ℕ) where
+  -- the run begins with this line
+  start-runs : {p : Plan} {log : Log} (d : Desk) (e : Entry) → Silent log → Quiet (frameIn (e .line)) (e .answer) →
+      Runs p m start (record { desk = withRun d p fresh; memory = startMemory p m }) (log ++ (e ∷ []))
+  unfolding withRun
+  start-runs {p} {log} d e h quiet =
+      let s : Silent (log ++ (e ∷ [])) = silent-more h e quiet in
+      record {
+        on = refl;
+        plan-is = refl;
+        world-is = refl;
+        stored = λ q n payload. (λ x. s .no-store q n payload x, λ x. absurd x);
+        told = λ q k. s .no-line p q k;
+        ended = λ q k x. absurd (s .no-end p q k x);
+      }
+
+  -- a line in front
+  first : (w : feed.World) (log : Log) (l : List ℕ) (ls : List (List ℕ)) →
+      Comes m (feed.next w l) (log ++ (record { line = l; answer = feed.reply w l } ∷ [])) ls → Comes m w log (l ∷ ls)
+  unfolding feed.worldAfter logOf
+  first w log l ls (never h) = never h
+  first w log l ls (started p before since go e asked made begins r) =
+      started p (l ∷ before) since go (ap (λ (x : List (List ℕ)). l ∷ x) e) asked made begins
+      (subst (λ (x : Log). Runs p m (history (callsIn since)) (feed.worldAfter (feed.next w l) ls) x)
+      (append-assoc log (record { line = l; answer = feed.reply w l } ∷ []) (logOf (feed.next w l) ls)) r)
+
+  -- the line that starts, and lines after it
+  begun : {p : Plan} (w : feed.World) (log : Log) (l : List ℕ) (ls : List (List ℕ)) → frameIn l ≡ Frame.Go → Made p → Begins p m →
+      Runs p m start (feed.next w l) (log ++ (record { line = l; answer = feed.reply w l } ∷ [])) → Comes m w log (l ∷ ls)
+  unfolding feed.worldAfter logOf
+  begun {p} w log l ls asked made begins r =
+      started p [] ls l refl asked made begins
+      (subst (λ (x : Log). Runs p m (history (callsIn ls)) (feed.worldAfter (feed.next w l) ls) x)
+      (append-assoc log (record { line = l; answer = feed.reply w l } ∷ []) (logOf (feed.next w l) ls)) (run-lines r ls))
+
+  module _ (w : feed.World) (log : Log) (l : List ℕ) (ls : List (List ℕ)) (lent : w .memory ≡ m) (silent : Silent log) where
+    by-turn : {f : Frame} {t : Turn} → frameIn l ≡ f → lineTurn (w .desk) (w .memory) l ≡ t → Waits (w .desk) (w .memory) f t →
+        ((v : feed.World) (log′ : Log) → v .desk .running ≡ false → v .memory ≡ m → Silent log′ → Comes m v log′ ls) → Comes m w log (l ∷ ls)
+    by-turn {f} {t} asked e (waits off here quiet) rest =
+        first w log l ls
+        (subst (λ (x : Turn). Comes m (nextBy x) (log ++ (entryBy l x ∷ [])) ls) (sym e)
+        (rest (nextBy t) (log ++ (entryBy l t ∷ [])) off (here ∙ lent)
+        (silent-more silent (entryBy l t) (subst (λ (g : Frame). Quiet g (t .answer)) (sym asked) quiet))))
+    by-turn asked e (starts {p = p} made ready) rest =
+        begun w log l ls asked made (record { ready = subst (λ (x : List ℕ). startAnswer p x ≡ Started.Ready) lent ready })
+        (subst (λ (x : Turn). Runs p m start (nextBy x) (log ++ (entryBy l x ∷ []))) (sym e)
+        (subst (λ (x : List ℕ). Runs p m start (record { desk = withRun (w .desk) p fresh; memory = startMemory p x }) (log ++ (entryBy l (opening p) ∷ [])))
+        (sym lent) (start-runs (w .desk) (entryBy l (opening p)) silent (subst (λ (g : Frame). Quiet g (opening p .answer)) (sym asked) tt))))
+      where
+        opening : Plan → Turn
+        opening p = says (withRun (w .desk) p fresh) (startMemory p (w .memory)) (sizesBytes (p .size) (p .queues))
+
+  comes : (w : feed.World) (log : Log) (ls : List (List ℕ)) → w .desk .running ≡ false → w .memory ≡ m → Silent log → Comes m w log ls
+  unfolding feed.worldAfter bytesTurn
+  comes w log [] off lent silent = never off
+  comes w log (l ∷ ls) off lent silent =
+      by-turn w log l ls lent silent refl (line-framed (w .desk) (w .memory) l) (waiting (w .desk) (w .memory) off (payloadOf l) (frameIn l))
+      (λ v log′ a b c. comes v log′ ls a b c)
+
+  -- a session of the program
+  pub session-comes : (ls : List (List ℕ)) → Comes m (opened m) [] ls
+  session-comes ls = comes (opened m) [] ls refl refl silent-none
