@@ -6,7 +6,7 @@ use Rattle.planning.specs.Accepted.{Made}
 use Rattle.mailbox.specs.Calls.{fresh, startAnswer, startMemory, sendAnswer, sendState, sendMemory, look, receiveState, receivingJob}
 use Rattle.frames.specs.Answers.{sizesBytes, badBytes, lineOf}
 use Rattle.console.specs.Framing.{line-framed}
-use Rattle.console.specs.Desk.{Turn, says, newDesk, withRun, withState, sentBytes, filler, receivedBytes, frameTurn, bytesTurn, lineTurn}
+use Rattle.console.specs.Desk.{Turn, says, planned, withRun, withState, sentBytes, filler, receivedBytes, frameTurn, bytesTurn, lineTurn}
 use Rattle.feed.specs.Answers as feed
 use Rattle.history.specs.History.{Call, send, receive, World, History, start, _then_, same, more, Begins, after, world, sendSays, receiveSays}
 use Rattle.history.specs.History.{goOn, history, SentIn, Sends, Reading, reads, readBy, ReadToEnd}
@@ -26,6 +26,7 @@ carried w = record { state = w .desk .state; memory = w .memory }
 pub record Runs (p : Plan) (m : List ℕ) (H : History) (w : feed.World) (log : Log) : Type 0 where
   pub on : w .desk .running ≡ true
   pub plan-is : w .desk .plan ≡ p
+  pub planned-is : p ≡ planned (w .desk) .plan
   pub world-is : carried w ≡ world p m H
   pub stored : (q n : ℕ) (payload : List ℕ) → StoredIn log q n payload ↔ SentIn p m H q n payload
   pub told : (q k : ℕ) → linesTo p q k log ≡ map lineFor (readBy p m filler H q k)
@@ -77,7 +78,7 @@ module _ {p : Plan} {m : List ℕ} {H : History} {w : feed.World} {log : Log} (r
       (record { before = H; t = u; within = same; job = j; answer = rw (← e, ← f) a }))
 
   -- a call's line
-  module _ (c : Call) (t : Turn) (running : t .desk .running ≡ true) (plan : t .desk .plan ≡ p) (now : carried (nextBy t) ≡ after p (world p m H) c)
+  module _ (c : Call) (t : Turn) (running : t .desk .running ≡ true) (plan : t .desk .plan ≡ p) (table : p ≡ planned (t .desk) .plan) (now : carried (nextBy t) ≡ after p (world p m H) c)
       (stores : (q n : ℕ) (b : List ℕ) → Stores q n b (entryBy line t) ↔ Sends p (world p m H) c q n b)
       (tells : (q k : ℕ) → linesTo p q k (entryBy line t ∷ []) ≡ map lineFor (reads p filler (world p m H) c q k))
       (ends : (q k : ℕ) → Ends p q k (entryBy line t) → ReadToEnd p m (H then c) q k) where
@@ -85,6 +86,7 @@ module _ {p : Plan} {m : List ℕ} {H : History} {w : feed.World} {log : Log} (r
     call-runs = record {
       on = running;
       plan-is = plan;
+      planned-is = table;
       world-is = now;
       stored = λ q n b. grow (stored-append log (entryBy line t ∷ []) q n b) (r .stored q n b) (stores q n b);
       told = λ q k.
@@ -111,6 +113,7 @@ module _ {p : Plan} {m : List ℕ} {H : History} {w : feed.World} {log : Log} (r
   idle-runs answer quiet = record {
     on = r .on;
     plan-is = r .plan-is;
+    planned-is = r .planned-is;
     world-is = r .world-is;
     stored = λ q n b. (λ s. from q n b (stored-append log (e ∷ []) q n b .0 s), λ s. stored-append log (e ∷ []) q n b .1 (inl (r .stored q n b .1 s)));
     told = λ q k. lines-append p q k log (e ∷ []) ∙ rw (quiet-lines e quiet p q k) (append-nil (linesTo p q k log) ∙ r .told q k);
@@ -156,10 +159,10 @@ module _ {p : Plan} {m : List ℕ} {H : History} {w : feed.World} {log : Log} (r
         ∙ ap (λ (x : World). lineOf (sentBytes (sendSays p x q i (t .0) payload))) (r .world-is)
 
     send-runs : Goal (Frame.Send q i t) sendingTurn
-    unfolding withState
+    unfolding withState planned
     send-runs =
         let e : Entry = entryBy line sendingTurn in
-        call-runs sendCall sendingTurn (r .on) (r .plan-is) sent-now (sent-stores p (world p m H) e q i t asked sent-answer)
+        call-runs sendCall sendingTurn (r .on) (r .plan-is) (r .planned-is) sent-now (sent-stores p (world p m H) e q i t asked sent-answer)
         (sent-lines p (world p m H) e q i t asked sent-answer)
         (λ s k x. absurd (sent-ends p (world p m H) e q i t asked sent-answer s k x))
 
@@ -187,10 +190,10 @@ module _ {p : Plan} {m : List ℕ} {H : History} {w : feed.World} {log : Log} (r
         ∙ ap (λ (x : World). lineOf (receivedBytes (x .memory) (receiveSays p x q (t .0)))) (r .world-is)
 
     receive-runs : Goal (Frame.Receive q t) receivingTurn
-    unfolding withState
+    unfolding withState planned
     receive-runs =
         let e : Entry = entryBy line receivingTurn in
-        call-runs receiveCall receivingTurn (r .on) (r .plan-is) received-now
+        call-runs receiveCall receivingTurn (r .on) (r .plan-is) (r .planned-is) received-now
         (λ s n b. (λ x. absurd (received-stores p (world p m H) e q t asked received-answer s n b x), λ x. elim x [ ]))
         (received-lines p (world p m H) e q t asked received-answer)
         (λ s k x.
@@ -262,14 +265,15 @@ pub data Comes (m : List ℕ) (w : feed.World) (log : Log) (ls : List (List ℕ)
 
 module _ (m : List ℕ) where
   -- the run begins with this line
-  start-runs : {p : Plan} {log : Log} (d : Desk) (e : Entry) → Silent log → Quiet (frameIn (e .line)) (e .answer) →
+  start-runs : {p : Plan} {log : Log} (d : Desk) (e : Entry) → p ≡ planned d .plan → Silent log → Quiet (frameIn (e .line)) (e .answer) →
       Runs p m start (record { desk = withRun d p fresh; memory = startMemory p m }) (log ++ (e ∷ []))
-  unfolding withRun
-  start-runs {p} {log} d e h quiet =
+  unfolding withRun planned
+  start-runs {p} {log} d e table h quiet =
       let s : Silent (log ++ (e ∷ [])) = silent-more h e quiet in
       record {
         on = refl;
         plan-is = refl;
+        planned-is = table;
         world-is = refl;
         stored = λ q n payload. (λ x. s .no-store q n payload x, λ x. absurd x);
         told = λ q k. s .no-line p q k;
@@ -303,11 +307,11 @@ module _ (m : List ℕ) where
         (subst (λ (x : Turn). Comes m (nextBy x) (log ++ (entryBy l x ∷ [])) ls) (sym e)
         (rest (nextBy t) (log ++ (entryBy l t ∷ [])) off (here ∙ lent)
         (silent-more silent (entryBy l t) (subst (λ (g : Frame). Quiet g (t .answer)) (sym asked) quiet))))
-    by-turn asked e (starts {p = p} made ready) rest =
+    by-turn asked e (starts {p = p} table made ready) rest =
         begun w log l ls asked made (record { ready = subst (λ (x : List ℕ). startAnswer p x ≡ Started.Ready) lent ready })
         (subst (λ (x : Turn). Runs p m start (nextBy x) (log ++ (entryBy l x ∷ []))) (sym e)
         (subst (λ (x : List ℕ). Runs p m start (record { desk = withRun (w .desk) p fresh; memory = startMemory p x }) (log ++ (entryBy l (opening p) ∷ [])))
-        (sym lent) (start-runs (w .desk) (entryBy l (opening p)) silent (subst (λ (g : Frame). Quiet g (opening p .answer)) (sym asked) tt))))
+        (sym lent) (start-runs (w .desk) (entryBy l (opening p)) table silent (subst (λ (g : Frame). Quiet g (opening p .answer)) (sym asked) tt))))
       where
         opening : Plan → Turn
         opening p = says (withRun (w .desk) p fresh) (startMemory p (w .memory)) (sizesBytes (p .size) (p .queues))

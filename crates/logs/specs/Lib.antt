@@ -9,4 +9,6 @@ pub mod ReadBack
 pub mod Turns
 pub mod Entries
 pub mod Follows
+pub mod Started
+pub mod Theorems
 pub mod Example

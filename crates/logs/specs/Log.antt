@@ -35,6 +35,15 @@ sessionLog m lines = logOf (opened m) lines
 abbrev pub deskAfter : List ℕ → List (List ℕ) → Desk
 deskAfter m lines = worldAfter (opened m) lines .desk
 
+-- two desks with the same rows of 01 and 02
+pub record SameTable (a b : Desk) : Type 0 where
+  pub tasks : a .tasks ≡ b .tasks
+  pub queues : a .queues ≡ b .queues
+  pub period : a .period ≡ b .period
+  pub deadline : a .deadline ≡ b .deadline
+  pub receiver : a .receiver ≡ b .receiver
+  pub senders : a .senders ≡ b .senders
+
 -- ## The calls
 
 -- the call that a line makes on a desk that runs; any other line makes none

@@ -45,7 +45,7 @@ Quiet Frame.Go answer = Unit {0}
 Quiet Frame.Bad answer = Unit {0}
 
 pub data Waits (d : Desk) (m : List ℕ) : Frame → Turn → Type 0 where
-  starts : {p : Plan} → Made p → startAnswer p m ≡ Started.Ready →
+  starts : {p : Plan} → p ≡ planned d .plan → Made p → startAnswer p m ≡ Started.Ready →
       Waits d m Frame.Go (says (withRun d p fresh) (startMemory p m) (sizesBytes (p .size) (p .queues)))
   waits : {f : Frame} {t : Turn} → t .desk .running ≡ false → t .memory ≡ m → Quiet f (t .answer) → Waits d m f t
 
@@ -62,14 +62,14 @@ module _ (d : Desk) (m : List ℕ) (e : d .running ≡ false) where
       go true = waits e refl (quiet _)
       go false = waits g refl (quiet _)
 
-  start-waits : (p : Plan) (a : Started) → Made p → startAnswer p m ≡ a → Waits d m Frame.Go (startTurn d p m a)
-  start-waits p Started.Ready made s = starts made s
-  start-waits p (Started.Refused r) made s = waits refl refl tt
+  start-waits : (a : Started) → Made (planned d .plan) → startAnswer (planned d .plan) m ≡ a → Waits d m Frame.Go (startTurn d (planned d .plan) m a)
+  start-waits Started.Ready made s = starts refl made s
+  start-waits (Started.Refused r) made s = waits refl refl tt
 
   plan-waits : (a : Answer) → planned d .answer ≡ a → Waits d m Frame.Go (planTurn d (planned d .plan) m a)
   unfolding planned
   plan-waits Answer.Accepted a =
-      start-waits (planned d .plan) (startAnswer (planned d .plan) m)
+      start-waits (startAnswer (planned d .plan) m)
       (accepted-made (d .tasks) (d .queues) (d .period) (d .deadline) (d .receiver) (squareOf (d .senders)) a) refl
   plan-waits (Answer.Refused r) a = waits refl refl tt
 
