@@ -92,6 +92,10 @@ refusal-back r g =
       second-back 0x7f 1 n 1 (r .row) (omega arith) f (omega arith) 2 refl,
     )
 
+pub refusal-code : (r : Refusal) → codeIn (lineOf (refusalBytes r)) ≡ 0x7f
+unfolding refusalBytes
+refusal-code r = code-back 0x7f (inBytes 1 (numberOf (r .rule)) ++ inBytes 1 (r .row)) (omega arith)
+
 -- ## Sizes
 
 -- size q, with the sizes before it and those behind it

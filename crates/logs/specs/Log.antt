@@ -24,6 +24,11 @@ unfoldable pub logOf : World → List (List ℕ) → Log
 logOf w [] = []
 logOf w (l ∷ ls) = record { line = l; answer = reply w l } ∷ logOf (next w l) ls
 
+-- what was written: the answers, one behind the other
+unfoldable pub written : Log → List ℕ
+written [] = []
+written (e ∷ es) = e .answer ++ written es
+
 -- the world that a session of the program begins in, with bytes of any kind in its memory
 abbrev pub opened : List ℕ → World
 opened m = record { desk = newDesk; memory = m }
@@ -34,6 +39,16 @@ sessionLog m lines = logOf (opened m) lines
 
 abbrev pub deskAfter : List ℕ → List (List ℕ) → Desk
 deskAfter m lines = worldAfter (opened m) lines .desk
+
+-- the line is an 03, and it is answered 81
+pub record Accepts (e : Entry) : Type 0 where
+  pub asked : frameIn (e .line) ≡ Frame.Go
+  pub told : codeIn (e .answer) ≡ 0x81
+
+-- some line of the log is such a one
+abbrev pub AcceptedIn : Log → Type 0
+AcceptedIn [] = ⊥
+AcceptedIn (e ∷ es) = Accepts e ⊎ AcceptedIn es
 
 -- two desks with the same rows of 01 and 02
 pub record SameTable (a b : Desk) : Type 0 where

@@ -1,17 +1,21 @@
 -- A session in which an 03 was accepted: the lines before it, the 03, and the lines since then, which are a history on the desk's plan.
-use Rattle.common.specs.Words.{ℕ, _<_, true, List, [], _∷_, _++_, map, _⊎_, inl, inr, _↔_, _≡_, refl, sym, ap, subst, _∙_}
+use Rattle.common.specs.Words.{ℕ, _<_, arith, Bool, true, false, cond, List, [], _∷_, _++_, map, _⊎_, inl, inr, _↔_, _≡_, refl, sym, ap, subst, _∙_}
 use Rattle.common.specs.Tests.{clash}
 use Rattle.calendar.specs.Calendar.{message, slot}
 use Rattle.planning.specs.Accepted.{Made}
-use Rattle.console.specs.Desk.{planned, filler}
+use Rattle.mailbox.specs.Calls.{startAnswer}
+use Rattle.console.specs.Framing.{line-framed}
+use Rattle.console.specs.Desk.{Turn, bad, planned, withRun, startTurn, planTurn, goTurn, withState, filler, frameTurn, bytesTurn, lineTurn}
 use Rattle.feed.specs.Answers as feed
 use Rattle.history.specs.History.{World, History, Begins, world, receiveSays, history, goOn, Reading, readBy, numberTold, numbers, Fair, asSent, nothingSent}
 use Rattle.history.specs.History.{SentIn, AllFair, Among as AmongReadings, ReadToEnd}
 use Rattle.history.specs.Answers.{Answered, ended, answered-so}
 use Rattle.history.specs.Theorems.{same-readings}
-use Rattle.logs.specs.Types.{Plan, Planned, Received, Frame}
-use Rattle.logs.specs.Said.{frameIn}
-use Rattle.logs.specs.Log.{Log, Entry, logOf, opened, sessionLog, deskAfter, callsIn, SameTable, StoredIn, linesTo, EndedIn, RightLine, asStored, nothingStored, RightLines, Among}
+use Rattle.logs.specs.Types.{Plan, Answer, Planned, Started as Start, Received, Frame, Desk}
+use Rattle.logs.specs.Said.{frameIn, payloadOf, codeIn}
+use Rattle.logs.specs.Lines.{refusal-code}
+use Rattle.logs.specs.Turns.{Acts, sends, receives, idles, running-acts}
+use Rattle.logs.specs.Log.{Log, Entry, logOf, written, opened, sessionLog, deskAfter, callsIn, AcceptedIn, SameTable, StoredIn, linesTo, EndedIn, RightLine, asStored, nothingStored, RightLines, Among}
 use Rattle.logs.specs.Entries.{lineFor}
 use Rattle.logs.specs.Follows.{Runs, run-lines, Comes, never, started, session-comes}
 
@@ -47,12 +51,70 @@ has-started m lines on = go (session-comes m lines)
           runs = subst (λ (x : Plan). Runs x m (history (callsIn since)) (feed.worldAfter (opened m) lines) (sessionLog m lines)) e r;
         }
 
+-- ## An 81
+
+not-81 : {code : ℕ} → code ≡ 0x7f → code ≡ 0x81 → ⊥
+not-81 e f = let z : _≡_ {A = ℕ} 0x7f 0x81 = sym e ∙ f in omega arith
+
+module _ (d : Desk) (m : List ℕ) where
+  abbrev Says81 : Turn → Type 0
+  Says81 t = codeIn (t .answer) ≡ 0x81 → t .desk .running ≡ true
+
+  start-81 : (p : Plan) (a : Start) → Says81 (startTurn d p m a)
+  unfolding withRun
+  start-81 p Start.Ready c = refl
+  start-81 p (Start.Refused r) c = absurd (not-81 (refusal-code r) c)
+
+  plan-81 : (p : Plan) (a : Answer) → Says81 (planTurn d p m a)
+  plan-81 p Answer.Accepted c = start-81 p (startAnswer p m) c
+  plan-81 p (Answer.Refused r) c = absurd (not-81 (refusal-code r) c)
+
+  go-81 : Says81 (goTurn d m)
+  unfolding goTurn
+  go-81 = pick (d .running) refl
+    where
+      pick : (b : Bool) → d .running ≡ b → Says81 (cond b (bad d m) (planTurn d (planned d .plan) m (planned d .answer)))
+      pick true e c = e
+      pick false e c = plan-81 (planned d .plan) (planned d .answer) c
+
+  -- a desk that runs runs on
+  acts-on : {payload : List ℕ} {f : Frame} {t : Turn} → d .running ≡ true → Acts d m payload f t → t .desk .running ≡ true
+  unfolding withState
+  acts-on on sends = on
+  acts-on on receives = on
+  acts-on on (idles e) = on
+
+runs-on : (w : feed.World) (ls : List (List ℕ)) → w .desk .running ≡ true → feed.worldAfter w ls .desk .running ≡ true
+unfolding feed.worldAfter bytesTurn
+runs-on w [] on = on
+runs-on w (l ∷ ls) on =
+    let d : Desk = w .desk in
+    runs-on (feed.next w l) ls
+    (rw (line-framed d (w .memory) l) (acts-on d (w .memory) on (running-acts d (w .memory) (payloadOf l) (frameIn l) on)))
+
+-- an 03 that is answered 81 is accepted
+pub accepted-runs : (w : feed.World) (ls : List (List ℕ)) → AcceptedIn (logOf w ls) → feed.worldAfter w ls .desk .running ≡ true
+unfolding feed.worldAfter logOf bytesTurn
+accepted-runs w [] a = absurd a
+accepted-runs w (l ∷ ls) (inl a) =
+    let d : Desk = w .desk in
+    let e : lineTurn d (w .memory) l ≡ goTurn d (w .memory) =
+    line-framed d (w .memory) l ∙ ap (λ (f : Frame). frameTurn d (w .memory) (payloadOf l) f) (a .asked) in
+    runs-on (feed.next w l) ls (subst (Says81 d (w .memory)) (sym e) (go-81 d (w .memory)) (a .told))
+accepted-runs w (l ∷ ls) (inr a) = accepted-runs (feed.next w l) ls a
+
 -- ## Logs of lines one after another
 
 pub log-append : (w : feed.World) (a b : List (List ℕ)) → logOf w (a ++ b) ≡ logOf w a ++ logOf (feed.worldAfter w a) b
 unfolding logOf feed.worldAfter
 log-append w [] b = refl
 log-append w (l ∷ a) b = ap (λ (x : Log). record { line = l; answer = feed.reply w l } ∷ x) (log-append (feed.next w l) a b)
+
+-- what the fold of feed writes is the log's answers
+pub log-written : (w : feed.World) (ls : List (List ℕ)) → feed.answersTo w ls ≡ written (logOf w ls)
+unfolding logOf written feed.answersTo
+log-written w [] = refl
+log-written w (l ∷ ls) = ap (λ (x : List ℕ). feed.reply w l ++ x) (log-written (feed.next w l) ls)
 
 -- a session that goes on
 pub runs-later : (m : List ℕ) (lines later : List (List ℕ)) (s : Started m lines) →

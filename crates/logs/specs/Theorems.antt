@@ -2,26 +2,35 @@
 -- with its answer. These are demand 3's sentences, said of the lines themselves: nothing stands in them but the log's digits and the plan
 -- of the table that was accepted. All definitions stand in Log and Said.
 --
--- How to read it. `deskAfter m lines .running ≡ true`: an 03 was accepted in these lines. `linesTo p q k log`: the lines 85 and 86 of queue q that
+-- How to read it. `AcceptedIn log`: an 03 was answered 81. `linesTo p q k log`: the lines 85 and 86 of queue q that
 -- job k of its receiver got, in the order of the log. `StoredIn log q n payload`: a line 04 on queue q with this payload was answered 84 with
 -- number n. `EndedIn p q k log`: a line 05 of job k was answered 87. `windowNumbers`: the numbers of a job's window, from its first on.
-use Rattle.common.specs.Words.{ℕ, _≤_, _<_, true, List, _++_, _↔_, _≡_, refl, sym, ap, subst, _∙_}
+use Rattle.common.specs.Words.{ℕ, _≤_, _<_, List, [], _++_, _↔_, _≡_, refl, sym, ap, subst, _∙_}
 use Rattle.model.specs.Model.{first, last}
 use Rattle.plan.specs.Plan.{queueAt}
 use Rattle.frames.specs.Answers.{messageBytes, lineOf}
 use Rattle.console.specs.Desk.{filler}
-use Rattle.feed.specs.Answers.{worldAfter}
+use Rattle.lines.specs.Lines.{ended}
+use Rattle.lines.specs.Whole.{linesOf}
+use Rattle.feed.specs.Answers.{worldAfter, answersTo}
+use Rattle.feed.specs.Feed.{Feeding}
+use Rattle.feed.specs.Session.{Answered, session}
 use Rattle.history.specs.History.{History, Begins, goOn, readBy, numbers, windowNumbers, ReadToEnd}
 use Rattle.history.specs.Lists.{goes-on}
 use Rattle.history.specs.Made.{made-fits}
 use Rattle.history.specs.Same.{read-to-end}
 use Rattle.history.specs.Theorems as history
 use Rattle.logs.specs.Types.{Plan}
-use Rattle.logs.specs.Log.{Log, opened, sessionLog, deskAfter, callsIn, StoredIn, linesTo, SameTable, EndedIn, RightLines, Among}
+use Rattle.logs.specs.Log.{Log, written, opened, sessionLog, deskAfter, callsIn, AcceptedIn, StoredIn, linesTo, SameTable, EndedIn, RightLines, Among}
 use Rattle.logs.specs.Follows.{Runs}
-use Rattle.logs.specs.Started.{Started, calls, has-started, runs-later, right-lines, among-lines, end-queue, same-plan, same-runs}
+use Rattle.logs.specs.Started.{Started, calls, has-started, accepted-runs, log-written, runs-later, right-lines, among-lines, end-queue, same-plan, same-runs}
 
-module _ (m : List ℕ) (lines : List (List ℕ)) (on : deskAfter m lines .running ≡ true) where
+-- What the program writes of a text, in whatever blocks the text came and with or without a line feed at its end, is the log's answers.
+pub output-is-the-log : (m text : List ℕ) (f : Feeding) → Answered (opened m) [] text f →
+    f .answers ++ answersTo (f .world) (ended (f .carry)) ≡ written (sessionLog m (linesOf text))
+output-is-the-log m text f a = session (opened m) text f a ∙ log-written (opened m) (linesOf text)
+
+module _ (m : List ℕ) (lines : List (List ℕ)) (accepted : AcceptedIn (sessionLog m lines)) where
   abbrev p : Plan
   p = deskAfter m lines .plan
 
@@ -30,7 +39,7 @@ module _ (m : List ℕ) (lines : List (List ℕ)) (on : deskAfter m lines .runni
 
   -- The lines since the accepted 03 are a history, in history's sense, on a plan that was made and with one accepted start.
   pub lines-are-a-history : Started m lines
-  lines-are-a-history = has-started m lines on
+  lines-are-a-history = has-started m lines (accepted-runs (opened m) lines accepted)
 
   -- the lines of a job are right for the numbers that it has read
   right-so-far : (later : List (List ℕ)) (q k : ℕ) → q < p .queues →
@@ -76,14 +85,14 @@ module _ (m : List ℕ) (lines : List (List ℕ)) (on : deskAfter m lines .runni
 
 -- Two sessions with the same table, in which the same was stored on queue q, in whatever order and at whatever ticks, and with whatever other
 -- lines between: a job of q's receiver that was answered 87 in both got the same 85 and 86 lines, digit by digit.
-pub same-lines : (m m′ : List ℕ) (lines lines′ : List (List ℕ)) → deskAfter m lines .running ≡ true → deskAfter m′ lines′ .running ≡ true →
+pub same-lines : (m m′ : List ℕ) (lines lines′ : List (List ℕ)) → AcceptedIn (sessionLog m lines) → AcceptedIn (sessionLog m′ lines′) →
     SameTable (deskAfter m lines) (deskAfter m′ lines′) → (q k : ℕ) →
     ((n : ℕ) (payload : List ℕ) → StoredIn (sessionLog m lines) q n payload ↔ StoredIn (sessionLog m′ lines′) q n payload) →
     EndedIn (deskAfter m lines .plan) q k (sessionLog m lines) → EndedIn (deskAfter m′ lines′ .plan) q k (sessionLog m′ lines′) →
     linesTo (deskAfter m lines .plan) q k (sessionLog m lines) ≡ linesTo (deskAfter m′ lines′ .plan) q k (sessionLog m′ lines′)
-same-lines m m′ lines lines′ on on′ table q k agree end end′ =
-    let s : Started m lines = has-started m lines on in
-    let s′ : Started m′ lines′ = has-started m′ lines′ on′ in
+same-lines m m′ lines lines′ accepted accepted′ table q k agree end end′ =
+    let s : Started m lines = lines-are-a-history m lines accepted in
+    let s′ : Started m′ lines′ = lines-are-a-history m′ lines′ accepted′ in
     let e : deskAfter m′ lines′ .plan ≡ deskAfter m lines .plan = same-plan s s′ table in
     same-runs (s .made) (s .begins) (subst (λ (x : Plan). Begins x m′) e (s′ .begins)) (s .runs)
     (subst (λ (x : Plan). Runs x m′ (calls s′) (worldAfter (opened m′) lines′) (sessionLog m′ lines′)) e (s′ .runs)) q k agree end

@@ -96,7 +96,6 @@ module _ (s : State) (p : Plan) (m : List ℕ) where
           subst SentFits (sym (send-stores p w q i t payload can) ∙ e)
           (omega (arith, number-below Qq (valid-at sound q (can .queue)) i k (can .sender), count-small sound q (can .queue) _ (can .deadline-within)), slot-small sound q (can .queue) N)
 
-
   pub receive-fits : (q t : ℕ) (a : Received) → look s p m q t ≡ a → ReceivedFits a
   receive-fits q t a e = go (answered-so p w q t a e) e
     where
