@@ -1,10 +1,11 @@
 -- Document 01's session as a log: computed line by line. The theorems' premises are met, and what they say of it is what document 01 prints.
-use Rattle.common.specs.Words.{ℕ, _%_, true, List, [], _∷_, _++_, _≡_, refl, _∙_, replicate}
+use Rattle.common.specs.Words.{ℕ, _%_, _≤_, arith, List, [], _∷_, _++_, inl, inr, _≡_, refl, subst, _∙_, replicate}
 use Rattle.common.specs.Totals.{sum, most}
 use Rattle.common.specs.Rows.{every, some, firstBad}
 use Rattle.common.specs.Table.{table}
 use Rattle.model.specs.Model.{count, hasDeadline, precedes, upTo, dueAt, followers, number, wantedFor, horizon, outdated, euclid, gcd}
-use Rattle.model.specs.Model.{lcm, multiple, hyperperiod, messages, need, rowSlots, slotsOver, slots, last, senderOf}
+use Rattle.model.specs.Model.{lcm, multiple, hyperperiod, messages, need, rowSlots, slotsOver, slots, first, last, senderOf}
+use Rattle.calendar.specs.Calendar.{tick}
 use Rattle.plan.specs.Limits.{lastTick}
 use Rattle.plan.specs.Plan.{queueAt}
 use Rattle.plan.specs.Rules.{oneTo, countsGood, taskGood, onlyTasksSend, queueGood, placeGood, placesGood, checkedPlan, soundPlan}
@@ -22,7 +23,10 @@ use Rattle.frames.specs.Answers.{eachSize, sizesBytes, storedBytes, messageByte
 use Rattle.console.specs.Framing.{framedBytes}
 use Rattle.console.specs.Desk.{rowTurn, withTask, withQueue, planned, withRun, goTurn, withState, sendTurn, receiveTurn, bytesTurn, lineTurn}
 use Rattle.feed.specs.Answers.{worldAfter, answersTo}
-use Rattle.logs.specs.Log.{sessionLog, deskAfter, opened, logOf, linesTo}
+use Rattle.logs.specs.Types.{Plan}
+use Rattle.logs.specs.Said.{saidIn}
+use Rattle.logs.specs.Log.{logOf, opened, sessionLog, deskAfter, AcceptedIn, StoredIn, linesTo, EndedIn, Among}
+use Rattle.logs.specs.Theorems.{stored-is-told}
 
 -- "0500000000000a"
 abbrev receiveLine : List ℕ
@@ -63,22 +67,38 @@ abbrev sender : ℕ → ℕ
 sender n = byte (senderOf (queueAt tableA 0) lastTick n)
 
 computed :
-    (deskAfter memory input .plan ≡ tableA) × (deskAfter memory input .running ≡ true)
+    (deskAfter memory input .plan ≡ tableA)
     × (answersTo (opened memory) input ≡ told (sender 1) (sender 3))
     × (linesTo tableA 0 1 (sessionLog memory input) ≡ gapLine 1 (sender 1) ∷ messageLine ∷ gapLine 3 (sender 3) ∷ [])
+    × AcceptedIn (sessionLog memory input) × StoredIn (sessionLog memory input) 0 2 payload × EndedIn tableA 0 1 (sessionLog memory input)
 unfolding
     soundPlan checkedPlan countsGood oneTo taskGood queueGood onlyTasksSend placesGood placeGood every some firstBad sum most count hasDeadline
     precedes upTo dueAt followers number wantedFor horizon outdated euclid gcd lcm multiple hyperperiod messages need rowSlots slotsOver slots last
     tabled longQueue sized tableJudged planOf table bytesOf numberFrom stored cleared running.sendAnswer running.sendMemory
     running.look viewOf startAnswer startMemory sendState receiveState found digit isLine bytesIn digits valueAt inBytes frameOf payloadIn eachSize
     sizesBytes storedBytes messageBytes gapBytes emptyBytes lineOf framedBytes rowTurn withTask withQueue planned withRun goTurn withState sendTurn
-    receiveTurn bytesTurn lineTurn worldAfter answersTo logOf linesTo
-computed = (refl, refl, refl, refl)
+    receiveTurn bytesTurn lineTurn worldAfter answersTo logOf linesTo saidIn
+computed = (
+  refl,
+  refl,
+  refl,
+  inr (inr (inr (inr (inl (record { asked = refl; told = refl }))))),
+  inr (inr (inr (inr (inr (inl (record { task = 1; tick = tick 3; slot = 2; asked = refl; carried = refl; told = refl })))))),
+  inr (inr (inr (inr (inr (inr (inr (inr (inr (inl (record { tick = tick 10; asked = refl; job = refl; told = refl })))))))))),
+)
 
 -- "Output, whole"
 pub output : answersTo (opened memory) input ≡ told 0 0
-output = computed .2 ∙ rw (sender-one, sender-three)
+output = computed .1 ∙ rw (sender-one, sender-three)
 
 -- what job 1 of the receiver was told
 pub lines-to-job : linesTo tableA 0 1 (sessionLog memory input) ≡ gapLine 1 0 ∷ messageLine ∷ gapLine 3 0 ∷ []
-lines-to-job = computed .3 ∙ rw (sender-one, sender-three)
+lines-to-job = computed .2 ∙ rw (sender-one, sender-three)
+
+-- Its 03 was answered 81, its 04 was stored as message 2, and job 1 was answered 87: so by the theorem the 85 of that message stands there.
+pub two-is-told : Among messageLine (linesTo tableA 0 1 (sessionLog memory input))
+unfolding last upTo sum count inBytes messageBytes
+two-is-told =
+    subst (λ (p : Plan). EndedIn p 0 1 (sessionLog memory input) → first (queueAt p 0) 1 ≤ 2 → 2 ≤ last (queueAt p 0) 1 →
+    Among messageLine (linesTo p 0 1 (sessionLog memory input))) (computed .0)
+    (stored-is-told memory input (computed .3) 0 1 2 payload (computed .4)) (computed .5) (omega arith) (omega arith)

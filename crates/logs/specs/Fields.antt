@@ -23,7 +23,7 @@ letter-back : (n : ℕ) → n < 16 → digit (letter n) ≡ n
 letter-back n h = eqb-true _ _ (every-at (λ n. eqb (digit (letter n)) n) 16 n letters h)
 
 -- the two digits of byte k
-digits-at : (bs : List ℕ) (k : ℕ) (c : List ℕ) → k < length bs →
+pub digits-at : (bs : List ℕ) (k : ℕ) (c : List ℕ) → k < length bs →
     (getD (digits bs ++ c) (2 * k) 0 ≡ letter (getD bs k 0 / 16)) × (getD (digits bs ++ c) (2 * k + 1) 0 ≡ letter (getD bs k 0 % 16))
 unfolding digits
 digits-at [] k c h = absurd (omega arith)

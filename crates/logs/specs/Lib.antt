@@ -9,6 +9,7 @@ pub mod ReadBack
 pub mod Turns
 pub mod Entries
 pub mod Follows
+pub mod Verbatim
 pub mod Started
 pub mod Theorems
 pub mod Example

@@ -5,12 +5,14 @@
 -- How to read it. `AcceptedIn log`: an 03 was answered 81. `linesTo p q k log`: the lines 85 and 86 of queue q that
 -- job k of its receiver got, in the order of the log. `StoredIn log q n payload`: a line 04 on queue q with this payload was answered 84 with
 -- number n. `EndedIn p q k log`: a line 05 of job k was answered 87. `windowNumbers`: the numbers of a job's window, from its first on.
-use Rattle.common.specs.Words.{ℕ, _≤_, _<_, List, [], _++_, _↔_, _≡_, refl, sym, ap, subst, _∙_}
+use Rattle.common.specs.Words.{ℕ, _≤_, _<_, List, [], _∷_, _++_, _↔_, _≡_, refl, sym, ap, subst, _∙_, drop}
 use Rattle.model.specs.Model.{first, last}
 use Rattle.plan.specs.Plan.{queueAt}
+use Rattle.digits.specs.Hex.{digits}
+use Rattle.digits.specs.Numbers.{inBytes}
 use Rattle.frames.specs.Answers.{messageBytes, lineOf}
 use Rattle.console.specs.Desk.{filler}
-use Rattle.lines.specs.Lines.{ended}
+use Rattle.lines.specs.Lines.{lineFeed, ended}
 use Rattle.lines.specs.Whole.{linesOf}
 use Rattle.feed.specs.Answers.{worldAfter, answersTo}
 use Rattle.feed.specs.Feed.{Feeding}
@@ -21,7 +23,8 @@ use Rattle.history.specs.Made.{made-fits}
 use Rattle.history.specs.Same.{read-to-end}
 use Rattle.history.specs.Theorems as history
 use Rattle.logs.specs.Types.{Plan}
-use Rattle.logs.specs.Log.{Log, written, opened, sessionLog, deskAfter, callsIn, AcceptedIn, StoredIn, linesTo, SameTable, EndedIn, RightLines, Among}
+use Rattle.logs.specs.Log.{Entry, Log, written, opened, sessionLog, deskAfter, callsIn, AcceptedIn, Stores, StoredIn, linesTo, SameTable, EndedIn, RightLines, Among}
+use Rattle.logs.specs.Verbatim.{message-verbatim}
 use Rattle.logs.specs.Follows.{Runs}
 use Rattle.logs.specs.Started.{Started, calls, has-started, accepted-runs, log-written, runs-later, right-lines, among-lines, end-queue, same-plan, same-runs}
 
@@ -29,6 +32,11 @@ use Rattle.logs.specs.Started.{Started, calls, has-started, accepted-run
 pub output-is-the-log : (m text : List ℕ) (f : Feeding) → Answered (opened m) [] text f →
     f .answers ++ answersTo (f .world) (ended (f .carry)) ≡ written (sessionLog m (linesOf text))
 output-is-the-log m text f a = session (opened m) text f a ∙ log-written (opened m) (linesOf text)
+
+-- The right 85 for a message is 85, its number in 6 bytes, and then the very digits that stood behind the tick in the 04 that stored it.
+pub message-is-verbatim : (q n : ℕ) (payload : List ℕ) (e : Entry) → Stores q n payload e →
+    lineOf (messageBytes n payload) ≡ digits (inBytes 1 0x85 ++ inBytes 6 n) ++ (drop 16 (e .line) ++ (lineFeed ∷ []))
+message-is-verbatim = message-verbatim
 
 module _ (m : List ℕ) (lines : List (List ℕ)) (accepted : AcceptedIn (sessionLog m lines)) where
   abbrev p : Plan
