@@ -4,8 +4,8 @@ use Rattle.common.specs.Words.{ℕ, arith, true, false, List, [], _∷_, inl, i
 use Rattle.common.specs.Totals.{sum, most}
 use Rattle.common.specs.Rows.{every, some, firstBad}
 use Rattle.calendar.specs.Calendar.{message, slot}
-use Rattle.model.specs.Model.{count, hasDeadline, precedes, upTo, dueAt, followers, number, wantedFor, horizon, outdated, euclid, gcd}
-use Rattle.model.specs.Model.{lcm, multiple, hyperperiod, need, rowSlots, slotsOver, slots, last, senderOf}
+use Rattle.model.specs.Model.{count, hasDeadline, precedes, upTo, dueAt, followers, number, wantedFor, horizon, outdated, euclid, gcd, lcm, multiple}
+use Rattle.model.specs.Model.{hyperperiod, need, rowSlots, slotsOver, slots, last, senderOf}
 use Rattle.model.specs.WayBack.{way-back}
 use Rattle.plan.specs.Rules.{oneTo, countsGood, taskGood, onlyTasksSend, queueGood, placeGood, placesGood, checkedPlan, soundPlan}
 use Rattle.plan.specs.Limits.{lastTick}

@@ -1,7 +1,7 @@
 -- What one line adds to a log, and that it is what its call adds to the history: an 84 is an accepted send, an 85 or an 86 a reading, an 87 an
 -- end. And logs that are one behind the other.
-use Rattle.common.specs.Words.{ℕ, arith, Bool, true, false, cond, _&&_, List, [], _∷_, _++_, append-nil, map, _⊎_, inl, inr, _↔_, _≡_, refl, sym}
-use Rattle.common.specs.Words.{ap, subst, _∙_, eqb}
+use Rattle.common.specs.Words.{ℕ, arith, Bool, true, false, cond, _&&_, List, [], _∷_, _++_, map, _⊎_, inl, inr, _↔_, _≡_, refl, sym, ap}
+use Rattle.common.specs.Words.{subst, _∙_, eqb}
 use Rattle.calendar.specs.Calendar.{message}
 use Rattle.plan.specs.Plan.{queueAt}
 use Rattle.plan.specs.Says.{Said}
@@ -9,8 +9,8 @@ use Rattle.mailbox.specs.Calls.{receivingJob}
 use Rattle.mailbox.specs.Says.{sentSays}
 use Rattle.frames.specs.Answers.{messageBytes, gapBytes, lineOf}
 use Rattle.console.specs.Desk.{sentBytes, filler, receivedBytes}
-use Rattle.history.specs.History.{Call, send, receive, World, sendSays, receiveSays, Sends, accepted, Reading, readings, reads}
-use Rattle.logs.specs.Types.{Number, Slot, Tick, Plan, Sent, Received, Frame}
+use Rattle.history.specs.History.{send, receive, World, sendSays, receiveSays, Sends, accepted, Reading, readings, reads}
+use Rattle.logs.specs.Types.{Tick, Plan, Sent, Received, Frame}
 use Rattle.logs.specs.Said.{frameIn, payloadOf, codeIn, saidIn, receivedTold}
 use Rattle.logs.specs.Log.{Entry, Log, Stores, StoredIn, asks, tells, linesTo, Ends, EndedIn}
 use Rattle.logs.specs.Widths.{send-fits, receive-fits}
@@ -35,7 +35,8 @@ regroup {A} {B} {C} {D} e = (λ x. to x, λ x. from x)
     from (inl (inr c)) = inr (e .1 (inl c))
     from (inr d) = inr (e .1 (inr d))
 
-pub stored-append : (a b : Log) (q n : ℕ) (payload : List ℕ) → StoredIn (a ++ b) q n payload ↔ (StoredIn a q n payload ⊎ StoredIn b q n payload)
+pub stored-append : (a b : Log) (q n : ℕ) (payload : List ℕ) →
+    StoredIn (a ++ b) q n payload ↔ (StoredIn a q n payload ⊎ StoredIn b q n payload)
 stored-append [] b q n payload = (λ s. inr s, λ s. elim s [ inl x ↦ absurd x | inr x ↦ x ])
 stored-append (e ∷ a) b q n payload = regroup (stored-append a b q n payload)
 
@@ -160,7 +161,8 @@ module _ (p : Plan) (w : World) (e : Entry) (q : ℕ) (t : Tick) (asked : frameI
 
   received-code : codeIn (e .answer) ≡ receivedTold received .0
   received-code =
-      said-code (e .answer) (receivedTold received) (rw answered (received-back (w .memory) received (receive-fits (w .state) p (w .memory) q (t .0) received refl)))
+      said-code (e .answer) (receivedTold received)
+      (rw answered (received-back (w .memory) received (receive-fits (w .state) p (w .memory) q (t .0) received refl)))
 
   pub received-stores : (r n : ℕ) (b : List ℕ) → Stores r n b e → ⊥
   received-stores r n b s = let z : _≡_ {A = ℕ} 0 1 = cc in omega arith

@@ -3,8 +3,8 @@ use Rattle.common.specs.Words.{ℕ, _%_, _≤_, arith, List, [], _∷_, _++_, i
 use Rattle.common.specs.Totals.{sum, most}
 use Rattle.common.specs.Rows.{every, some, firstBad}
 use Rattle.common.specs.Table.{table}
-use Rattle.model.specs.Model.{count, hasDeadline, precedes, upTo, dueAt, followers, number, wantedFor, horizon, outdated, euclid, gcd}
-use Rattle.model.specs.Model.{lcm, multiple, hyperperiod, messages, need, rowSlots, slotsOver, slots, first, last, senderOf}
+use Rattle.model.specs.Model.{count, hasDeadline, precedes, upTo, dueAt, followers, number, wantedFor, horizon, outdated, euclid, gcd, lcm, multiple}
+use Rattle.model.specs.Model.{hyperperiod, messages, need, rowSlots, slotsOver, slots, first, last, senderOf}
 use Rattle.calendar.specs.Calendar.{tick}
 use Rattle.plan.specs.Limits.{lastTick}
 use Rattle.plan.specs.Plan.{queueAt}

@@ -1,11 +1,11 @@
 -- A number that an answer writes in so many bytes is the one that its line's digits say, where it fits them.
-use Rattle.common.specs.Words.{ℕ, zero, suc, _+_, _-_, _*_, _/_, _%_, _^_, _<_, _≤_, arith, Bool, true, false, cond, List, [], _∷_, _++_, append-assoc}
-use Rattle.common.specs.Words.{append-nil, _≡_, refl, sym, ap, _∙_, eqb, length, getD, length-append, List·getD-append, eqb-true, div-add-mod', mod-lt}
-use Rattle.common.specs.Words.{getD-at, ⊎-elim, eq-or-lt-of-le, le-of-suc-le-suc}
+use Rattle.common.specs.Words.{ℕ, zero, suc, _+_, _*_, _/_, _%_, _^_, _<_, arith, true, List, [], _∷_, _++_, _≡_, refl, _∙_, eqb, length}
+use Rattle.common.specs.Words.{getD, length-append, List·getD-append, eqb-true, div-add-mod', mod-lt, getD-at, ⊎-elim, eq-or-lt-of-le}
+use Rattle.common.specs.Words.{le-of-suc-le-suc}
 use Rattle.common.specs.Rows.{every, every-at}
-use Rattle.common.specs.Table.{table, table-at}
+use Rattle.common.specs.Table.{table-at}
 use Rattle.digits.specs.Hex.{digit, letter, byteAt, bytesIn, digits}
-use Rattle.digits.specs.HexLaws.{digits-length, bytes-count}
+use Rattle.digits.specs.HexLaws.{bytes-count}
 use Rattle.digits.specs.Numbers.{valueAt, inBytes}
 use Rattle.digits.specs.NumberLaws.{bytes-length, value-back}
 use Rattle.frames.specs.Answers.{lineOf}
@@ -62,13 +62,15 @@ small (suc width) n k h =
     (λ (g : k < width). rw (List·getD-append (inBytes width (n / 256)) (n % 256 ∷ []) 0 k (omega arith)) (small width (n / 256) k g))
     (eq-or-lt-of-le (le-of-suc-le-suc h))
 
-value-same : (xs ys : List ℕ) (at width : ℕ) → ((k : ℕ) → k < width → getD xs (at + k) 0 ≡ getD ys (0 + k) 0) → valueAt xs at width ≡ valueAt ys 0 width
+value-same : (xs ys : List ℕ) (at width : ℕ) → ((k : ℕ) → k < width → getD xs (at + k) 0 ≡ getD ys (0 + k) 0) →
+    valueAt xs at width ≡ valueAt ys 0 width
 unfolding valueAt
 value-same xs ys at zero h = refl
 value-same xs ys at (suc width) h = rw (value-same xs ys at width (λ k l. h k (omega arith)), h width (omega arith))
 
 -- a number behind some bytes, with any bytes behind it
-pub field : (a c : List ℕ) (at width n : ℕ) → length a ≡ at → n < 256 ^ width → valueAt (bytesIn (lineOf (a ++ (inBytes width n ++ c)))) at width ≡ n
+pub field : (a c : List ℕ) (at width n : ℕ) → length a ≡ at → n < 256 ^ width →
+    valueAt (bytesIn (lineOf (a ++ (inBytes width n ++ c)))) at width ≡ n
 field a c at width n e f = value-same _ (inBytes width n) at width one ∙ value-back width n f
   where
     bs : List ℕ

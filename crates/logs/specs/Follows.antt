@@ -1,22 +1,22 @@
 -- A session follows a history: from the accepted 03 on, the desk, the memory and the log are those of the calls that the lines make.
-use Rattle.common.specs.Words.{ℕ, arith, Bool, true, false, List, [], _∷_, _++_, append-assoc, append-nil, map, _⊎_, inl, inr, _↔_, _≡_, refl, sym}
-use Rattle.common.specs.Words.{ap, subst, _∙_}
+use Rattle.common.specs.Words.{ℕ, arith, true, false, List, [], _∷_, _++_, append-assoc, append-nil, map, _⊎_, inl, inr, _↔_, _≡_, refl}
+use Rattle.common.specs.Words.{sym, ap, subst, _∙_}
 use Rattle.plan.specs.Plan.{queueAt}
 use Rattle.planning.specs.Accepted.{Made}
 use Rattle.mailbox.specs.Calls.{fresh, startAnswer, startMemory, sendAnswer, sendState, sendMemory, look, receiveState, receivingJob}
 use Rattle.frames.specs.Answers.{sizesBytes, badBytes, lineOf}
 use Rattle.console.specs.Framing.{line-framed}
-use Rattle.console.specs.Desk.{Turn, says, planned, withRun, withState, sentBytes, filler, receivedBytes, frameTurn, bytesTurn, lineTurn}
+use Rattle.console.specs.Desk.{Turn, says, planned, withRun, withState, sentBytes, filler, receivedBytes, bytesTurn, lineTurn}
 use Rattle.feed.specs.Answers as feed
-use Rattle.history.specs.History.{Call, send, receive, World, History, start, _then_, same, more, Begins, after, world, sendSays, receiveSays}
-use Rattle.history.specs.History.{goOn, history, SentIn, Sends, Reading, reads, readBy, ReadToEnd}
+use Rattle.history.specs.History.{Call, send, receive, World, History, start, _then_, same, more, Begins, after, world, sendSays, receiveSays, goOn}
+use Rattle.history.specs.History.{history, SentIn, Sends, reads, readBy, ReadToEnd}
 use Rattle.history.specs.Lists.{goOn-append}
 use Rattle.logs.specs.Types.{Tick, Plan, Started, Received, Frame, Desk}
 use Rattle.logs.specs.Said.{frameIn, payloadOf}
 use Rattle.logs.specs.Log.{Entry, Log, logOf, opened, callOf, callsIn, Stores, StoredIn, linesTo, Ends, EndedIn}
 use Rattle.logs.specs.Turns.{Acts, sends, receives, idles, running-acts, Quiet, Waits, starts, waits, waiting}
-use Rattle.logs.specs.Entries.{stored-append, ended-append, lines-append, quiet-stores, quiet-ends, quiet-lines, lineFor}
-use Rattle.logs.specs.Entries.{sent-stores, sent-ends, sent-lines, received-stores, received-empty, received-lines}
+use Rattle.logs.specs.Entries.{stored-append, ended-append, lines-append, quiet-stores, quiet-ends, quiet-lines, lineFor, sent-stores}
+use Rattle.logs.specs.Entries.{sent-ends, sent-lines, received-stores, received-empty, received-lines}
 
 -- the desk's own part of a world, as a history has it
 abbrev pub carried : feed.World → World
@@ -78,7 +78,8 @@ module _ {p : Plan} {m : List ℕ} {H : History} {w : feed.World} {log : Log} (r
       (record { before = H; t = u; within = same; job = j; answer = rw (← e, ← f) a }))
 
   -- a call's line
-  module _ (c : Call) (t : Turn) (running : t .desk .running ≡ true) (plan : t .desk .plan ≡ p) (table : p ≡ planned (t .desk) .plan) (now : carried (nextBy t) ≡ after p (world p m H) c)
+  module _ (c : Call) (t : Turn) (running : t .desk .running ≡ true) (plan : t .desk .plan ≡ p) (table : p ≡ planned (t .desk) .plan)
+      (now : carried (nextBy t) ≡ after p (world p m H) c)
       (stores : (q n : ℕ) (b : List ℕ) → Stores q n b (entryBy line t) ↔ Sends p (world p m H) c q n b)
       (tells : (q k : ℕ) → linesTo p q k (entryBy line t ∷ []) ≡ map lineFor (reads p filler (world p m H) c q k))
       (ends : (q k : ℕ) → Ends p q k (entryBy line t) → ReadToEnd p m (H then c) q k) where
@@ -115,7 +116,10 @@ module _ {p : Plan} {m : List ℕ} {H : History} {w : feed.World} {log : Log} (r
     plan-is = r .plan-is;
     planned-is = r .planned-is;
     world-is = r .world-is;
-    stored = λ q n b. (λ s. from q n b (stored-append log (e ∷ []) q n b .0 s), λ s. stored-append log (e ∷ []) q n b .1 (inl (r .stored q n b .1 s)));
+    stored = λ q n b. (
+      λ s. from q n b (stored-append log (e ∷ []) q n b .0 s),
+      λ s. stored-append log (e ∷ []) q n b .1 (inl (r .stored q n b .1 s)),
+    );
     told = λ q k. lines-append p q k log (e ∷ []) ∙ rw (quiet-lines e quiet p q k) (append-nil (linesTo p q k log) ∙ r .told q k);
     ended = λ q k s. go q k (ended-append p q k log (e ∷ []) s);
   }
@@ -137,7 +141,8 @@ module _ {p : Plan} {m : List ℕ} {H : History} {w : feed.World} {log : Log} (r
   module _ (q i : ℕ) (t : Tick) (asked : frameIn line ≡ Frame.Send q i t) where
     abbrev sendingTurn : Turn
     sendingTurn =
-        says (withState d (sendState (d .state) (d .plan) (w .memory) q i (t .0) payload)) (sendMemory (d .state) (d .plan) (w .memory) q i (t .0) payload)
+        says (withState d (sendState (d .state) (d .plan) (w .memory) q i (t .0) payload))
+        (sendMemory (d .state) (d .plan) (w .memory) q i (t .0) payload)
         (sentBytes (sendAnswer (d .state) (d .plan) (w .memory) q i (t .0) payload))
 
     abbrev sendCall : Call
@@ -209,7 +214,8 @@ module _ {p : Plan} {m : List ℕ} {H : History} {w : feed.World} {log : Log} (r
       subst (λ (cs : List Call). Runs p m (goOn H cs) w (log ++ (record { line = line; answer = answer } ∷ []))) (sym e)
       (idle-runs answer (subst (λ (g : Frame). Quiet g answer) (sym asked) (idle-quiet f e answer)))
 
-  pub run-line : Runs p m (goOn H (callOf payload (frameIn line))) (feed.next w line) (log ++ (record { line = line; answer = feed.reply w line } ∷ []))
+  pub run-line : Runs p m (goOn H (callOf payload (frameIn line))) (feed.next w line)
+      (log ++ (record { line = line; answer = feed.reply w line } ∷ []))
   unfolding bytesTurn
   run-line =
       subst (Goal (frameIn line)) (sym (line-framed d (w .memory) line)) (acts refl (running-acts d (w .memory) payload (frameIn line) (r .on)))
@@ -260,7 +266,8 @@ silent-more {log} h e quiet = record {
 -- Lines from a desk that does not run: it never runs, or one of them is the accepted 03, and the rest are a history.
 pub data Comes (m : List ℕ) (w : feed.World) (log : Log) (ls : List (List ℕ)) : Type 0 where
   never : feed.worldAfter w ls .desk .running ≡ false → Comes m w log ls
-  started : (p : Plan) (before since : List (List ℕ)) (go : List ℕ) → ls ≡ before ++ (go ∷ since) → frameIn go ≡ Frame.Go → Made p → Begins p m →
+  started : (p : Plan) (before since : List (List ℕ)) (go : List ℕ) → ls ≡ before ++ (go ∷ since) →
+      frameIn go ≡ Frame.Go → Made p → Begins p m →
       Runs p m (history (callsIn since)) (feed.worldAfter w ls) (log ++ logOf w ls) → Comes m w log ls
 
 module _ (m : List ℕ) where
@@ -301,7 +308,8 @@ module _ (m : List ℕ) where
 
   module _ (w : feed.World) (log : Log) (l : List ℕ) (ls : List (List ℕ)) (lent : w .memory ≡ m) (silent : Silent log) where
     by-turn : {f : Frame} {t : Turn} → frameIn l ≡ f → lineTurn (w .desk) (w .memory) l ≡ t → Waits (w .desk) (w .memory) f t →
-        ((v : feed.World) (log′ : Log) → v .desk .running ≡ false → v .memory ≡ m → Silent log′ → Comes m v log′ ls) → Comes m w log (l ∷ ls)
+        ((v : feed.World) (log′ : Log) → v .desk .running ≡ false → v .memory ≡ m → Silent log′ → Comes m v log′ ls) →
+        Comes m w log (l ∷ ls)
     by-turn {f} {t} asked e (waits off here quiet) rest =
         first w log l ls
         (subst (λ (x : Turn). Comes m (nextBy x) (log ++ (entryBy l x ∷ [])) ls) (sym e)
@@ -310,7 +318,9 @@ module _ (m : List ℕ) where
     by-turn asked e (starts {p = p} table made ready) rest =
         begun w log l ls asked made (record { ready = subst (λ (x : List ℕ). startAnswer p x ≡ Started.Ready) lent ready })
         (subst (λ (x : Turn). Runs p m start (nextBy x) (log ++ (entryBy l x ∷ []))) (sym e)
-        (subst (λ (x : List ℕ). Runs p m start (record { desk = withRun (w .desk) p fresh; memory = startMemory p x }) (log ++ (entryBy l (opening p) ∷ [])))
+        (subst
+        (λ (x : List ℕ).
+        Runs p m start (record { desk = withRun (w .desk) p fresh; memory = startMemory p x }) (log ++ (entryBy l (opening p) ∷ [])))
         (sym lent) (start-runs (w .desk) (entryBy l (opening p)) table silent (subst (λ (g : Frame). Quiet g (opening p .answer)) (sym asked) tt))))
       where
         opening : Plan → Turn

@@ -1,21 +1,20 @@
 -- Each answer's line says the answer's code and values, where they fit the bytes that they are written in.
-use Rattle.common.specs.Words.{ℕ, zero, suc, _+_, _*_, _/_, _^_, _<_, arith, List, [], _∷_, _++_, append-assoc, append-nil, _≡_, refl, sym, ap, _∙_}
-use Rattle.common.specs.Words.{⊎-elim, eq-or-lt-of-le, le-of-suc-le-suc, length, getD, length-append}
-use Rattle.common.specs.Rows.{every}
+use Rattle.common.specs.Words.{ℕ, zero, suc, _+_, _*_, _/_, _^_, _<_, arith, List, [], _∷_, _++_, append-assoc, append-nil, _≡_, refl, sym, ap}
+use Rattle.common.specs.Words.{_∙_, ⊎-elim, eq-or-lt-of-le, le-of-suc-le-suc, length, getD, length-append}
 use Rattle.common.specs.Table.{table}
 use Rattle.plan.specs.Refusals.{numberOf}
 use Rattle.plan.specs.Says.{refusedSays}
 use Rattle.plan.specs.declared.refusal.Rule.{Rule}
-use Rattle.plan.specs.declared.refusal.Rule.the-variants.{TaskOrQueueCount, PeriodOrDeadline, ReceiverOrSender, HyperperiodTooLong}
-use Rattle.plan.specs.declared.refusal.Rule.the-variants.{TooManyMessages, TooManySlots, UnsoundPlan, ShortMemory, NoSuchSender}
-use Rattle.plan.specs.declared.refusal.Rule.the-variants.{TickBeforeState, PastLastTick, JobOver, SentAlready, PayloadLength, NoSuchNumber}
+use Rattle.plan.specs.declared.refusal.Rule.the-variants.{TaskOrQueueCount, PeriodOrDeadline, ReceiverOrSender, HyperperiodTooLong, TooManyMessages}
+use Rattle.plan.specs.declared.refusal.Rule.the-variants.{TooManySlots, UnsoundPlan, ShortMemory, NoSuchSender, TickBeforeState, PastLastTick}
+use Rattle.plan.specs.declared.refusal.Rule.the-variants.{JobOver, SentAlready, PayloadLength, NoSuchNumber}
 use Rattle.digits.specs.Hex.{digit, bytesIn, digits}
 use Rattle.digits.specs.Numbers.{valueAt, inBytes}
 use Rattle.digits.specs.NumberLaws.{bytes-length}
 use Rattle.frames.specs.Answers.{eachSize, sizesBytes, storedBytes, messageBytes, gapBytes, emptyBytes, refusalBytes, badBytes, lineOf}
 use Rattle.frames.specs.Writing.{sizes-length}
 use Rattle.logs.specs.Types.{Refusal}
-use Rattle.logs.specs.Said.{codeIn, saidIn, badTold}
+use Rattle.logs.specs.Said.{codeIn, saidIn, badTold, nothingTold}
 use Rattle.logs.specs.Fields.{field, bytes-half}
 
 code-back : (code : ℕ) (rest : List ℕ) → code < 256 → codeIn (lineOf (inBytes 1 code ++ rest)) ≡ code
@@ -40,7 +39,11 @@ module _ (code width n width′ n′ : ℕ) (code-fits : code < 256) (fits : n <
 pub stored-back : (n s : ℕ) → n < 256 ^ 6 → s < 256 ^ 2 → saidIn (lineOf (storedBytes n s)) ≡ (0x84, n ∷ s ∷ [])
 unfolding saidIn storedBytes
 stored-back n s f g =
-    rw (code-back 0x84 (inBytes 6 n ++ inBytes 2 s) (omega arith), first-back 0x84 6 n 2 s (omega arith) f g, second-back 0x84 6 n 2 s (omega arith) f g 7 refl)
+    rw (
+      code-back 0x84 (inBytes 6 n ++ inBytes 2 s) (omega arith),
+      first-back 0x84 6 n 2 s (omega arith) f g,
+      second-back 0x84 6 n 2 s (omega arith) f g 7 refl,
+    )
 
 pub gap-back : (n row : ℕ) → n < 256 ^ 6 → row < 256 → saidIn (lineOf (gapBytes n row)) ≡ (0x86, n ∷ row ∷ [])
 unfolding saidIn gapBytes
@@ -63,6 +66,10 @@ empty-back = refl
 pub bad-back : saidIn (lineOf badBytes) ≡ badTold
 unfolding saidIn badBytes lineOf bytesIn digits digit valueAt inBytes table
 bad-back = refl
+
+pub nothing-back : saidIn [] ≡ nothingTold
+unfolding saidIn bytesIn valueAt table
+nothing-back = refl
 
 rule-small : (r : Rule) → numberOf r < 256
 rule-small TaskOrQueueCount = omega arith
@@ -99,7 +106,8 @@ refusal-code r = code-back 0x7f (inBytes 1 (numberOf (r .rule)) ++ inBytes 1 (r 
 -- ## Sizes
 
 -- size q, with the sizes before it and those behind it
-size-there : (sizes : List ℕ) (n q : ℕ) → q < n → (rest : List ℕ) × (eachSize sizes n ≡ eachSize sizes q ++ (inBytes 2 (getD sizes q 0) ++ rest))
+size-there : (sizes : List ℕ) (n q : ℕ) → q < n →
+    (rest : List ℕ) × (eachSize sizes n ≡ eachSize sizes q ++ (inBytes 2 (getD sizes q 0) ++ rest))
 unfolding eachSize
 size-there sizes zero q h = absurd (omega arith)
 size-there sizes (suc n) q h =

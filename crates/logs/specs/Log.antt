@@ -129,7 +129,8 @@ EndedIn p q k (e ∷ es) = Ends p q k e ⊎ EndedIn p q k es
 -- the number and its sender's row, where nothing was stored.
 pub data RightLine (p : Plan) (q : ℕ) (S : ℕ → List ℕ → Type 0) : ℕ → List ℕ → Type 0 where
   asStored : {n : ℕ} {payload : List ℕ} → S n payload → RightLine p q S n (lineOf (messageBytes n payload))
-  nothingStored : {n : ℕ} → ((payload : List ℕ) → ¬ S n payload) → RightLine p q S n (lineOf (gapBytes n (senderOf (queueAt p q) lastTick n)))
+  nothingStored : {n : ℕ} → ((payload : List ℕ) → ¬ S n payload) →
+      RightLine p q S n (lineOf (gapBytes n (senderOf (queueAt p q) lastTick n)))
 
 -- one by one, the lines are the right ones for the numbers
 abbrev pub RightLines : Plan → ℕ → (ℕ → List ℕ → Type 0) → List ℕ → List (List ℕ) → Type 0

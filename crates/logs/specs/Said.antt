@@ -1,7 +1,8 @@
 -- What a line of the console says. A line that was answered is a frame; a line that answers is a code and values, read from its digits
 -- alone. And beside it what the console had to say: the code and the values of the call's own answer. Law `read-back` says that they agree.
-use Rattle.common.specs.Words.{ℕ, _+_, _*_, _/_, cond, List, [], _∷_, eqb, length}
+use Rattle.common.specs.Words.{ℕ, _+_, _*_, _/_, Bool, cond, List, [], _∷_, leb, eqb, length}
 use Rattle.common.specs.Table.{table}
+use Rattle.plan.specs.Limits.{taskLimit, queueLimit}
 use Rattle.plan.specs.Plan.{sizeAt}
 use Rattle.plan.specs.Says.{Said, refusedSays}
 use Rattle.mailbox.specs.Calls.{startAnswer, sendAnswer, look}
@@ -62,10 +63,18 @@ planTold p m (Answer.Refused r) = refusedSays r
 abbrev pub badTold : Said
 badTold = (0x7f, 0xf0 ∷ 0 ∷ [])
 
--- what a frame is told on a desk and a memory. A row of 01 or 02 that is taken is told nothing, any other is told 7ff000.
+-- of no answer, which is what a row of 01 or 02 gets that is taken, nothing is said; "01 to 03 after an accepted 03, a row beyond 16 and 8 .. is
+-- answered 7ff000"
+abbrev pub nothingTold : Said
+nothingTold = (0, [])
+
+abbrev pub rowTold : Desk → Bool → Said
+rowTold d full = cond (d .running) badTold (cond full badTold nothingTold)
+
+-- what a frame is told on a desk and a memory
 unfoldable pub frameTold : Desk → List ℕ → List ℕ → Frame → Said
-frameTold d m payload (Frame.Task period deadline) = badTold
-frameTold d m payload (Frame.Queue receiver mask) = badTold
+frameTold d m payload (Frame.Task period deadline) = rowTold d (leb taskLimit (d .tasks))
+frameTold d m payload (Frame.Queue receiver mask) = rowTold d (leb queueLimit (d .queues))
 frameTold d m payload Frame.Go = cond (d .running) badTold (planTold (planned d .plan) m (planned d .answer))
 frameTold d m payload (Frame.Send q i t) = cond (d .running) (sentSays (sendAnswer (d .state) (d .plan) m q i (t .0) payload)) badTold
 frameTold d m payload (Frame.Receive q t) = cond (d .running) (receivedTold (look (d .state) (d .plan) m q (t .0))) badTold

@@ -1,21 +1,22 @@
 -- A session in which an 03 was accepted: the lines before it, the 03, and the lines since then, which are a history on the desk's plan.
-use Rattle.common.specs.Words.{ℕ, _<_, arith, Bool, true, false, cond, List, [], _∷_, _++_, map, _⊎_, inl, inr, _↔_, _≡_, refl, sym, ap, subst, _∙_}
+use Rattle.common.specs.Words.{ℕ, _<_, arith, Bool, true, false, cond, List, [], _∷_, _++_, map, inl, inr, _↔_, _≡_, refl, sym, ap, subst}
+use Rattle.common.specs.Words.{_∙_}
 use Rattle.common.specs.Tests.{clash}
-use Rattle.calendar.specs.Calendar.{message, slot}
 use Rattle.planning.specs.Accepted.{Made}
 use Rattle.mailbox.specs.Calls.{startAnswer}
 use Rattle.console.specs.Framing.{line-framed}
 use Rattle.console.specs.Desk.{Turn, bad, planned, withRun, startTurn, planTurn, goTurn, withState, filler, frameTurn, bytesTurn, lineTurn}
 use Rattle.feed.specs.Answers as feed
-use Rattle.history.specs.History.{World, History, Begins, world, receiveSays, history, goOn, Reading, readBy, numberTold, numbers, Fair, asSent, nothingSent}
-use Rattle.history.specs.History.{SentIn, AllFair, Among as AmongReadings, ReadToEnd}
+use Rattle.history.specs.History.{World, History, Begins, world, history, goOn, Reading, numberTold, numbers, Fair, asSent, nothingSent, SentIn}
+use Rattle.history.specs.History.{AllFair, Among as AmongReadings, ReadToEnd}
 use Rattle.history.specs.Answers.{Answered, ended, answered-so}
 use Rattle.history.specs.Theorems.{same-readings}
 use Rattle.logs.specs.Types.{Plan, Answer, Planned, Started as Start, Received, Frame, Desk}
 use Rattle.logs.specs.Said.{frameIn, payloadOf, codeIn}
 use Rattle.logs.specs.Lines.{refusal-code}
 use Rattle.logs.specs.Turns.{Acts, sends, receives, idles, running-acts}
-use Rattle.logs.specs.Log.{Log, Entry, logOf, written, opened, sessionLog, deskAfter, callsIn, AcceptedIn, SameTable, StoredIn, linesTo, EndedIn, RightLine, asStored, nothingStored, RightLines, Among}
+use Rattle.logs.specs.Log.{Log, logOf, written, opened, sessionLog, deskAfter, callsIn, AcceptedIn, SameTable, StoredIn, linesTo, EndedIn}
+use Rattle.logs.specs.Log.{RightLine, asStored, nothingStored, RightLines, Among}
 use Rattle.logs.specs.Entries.{lineFor}
 use Rattle.logs.specs.Follows.{Runs, run-lines, Comes, never, started, session-comes}
 
@@ -158,7 +159,8 @@ same-plan {m} {m′} {lines} {lines′} s s′ same =
     let e : planned (deskAfter m′ lines′) ≡ planned (deskAfter m lines) = cc in
     s′ .runs .planned-is ∙ ap (λ (x : Planned). x .plan) e ∙ sym (s .runs .planned-is)
 
-pub same-runs : {p : Plan} → Made p → {m m′ : List ℕ} → Begins p m → Begins p m′ → {H K : History} {w w′ : feed.World} {log log′ : Log} →
+pub same-runs : {p : Plan} → Made p → {m m′ : List ℕ} → Begins p m → Begins p m′ →
+    {H K : History} {w w′ : feed.World} {log log′ : Log} →
     Runs p m H w log → Runs p m′ K w′ log′ → (q k : ℕ) →
     ((n : ℕ) (payload : List ℕ) → StoredIn log q n payload ↔ StoredIn log′ q n payload) → EndedIn p q k log → EndedIn p q k log′ →
     linesTo p q k log ≡ linesTo p q k log′

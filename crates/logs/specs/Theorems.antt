@@ -23,10 +23,12 @@ use Rattle.history.specs.Made.{made-fits}
 use Rattle.history.specs.Same.{read-to-end}
 use Rattle.history.specs.Theorems as history
 use Rattle.logs.specs.Types.{Plan}
-use Rattle.logs.specs.Log.{Entry, Log, written, opened, sessionLog, deskAfter, callsIn, AcceptedIn, Stores, StoredIn, linesTo, SameTable, EndedIn, RightLines, Among}
+use Rattle.logs.specs.Log.{Entry, Log, written, opened, sessionLog, deskAfter, callsIn, AcceptedIn, Stores, StoredIn, linesTo, SameTable}
+use Rattle.logs.specs.Log.{EndedIn, RightLines, Among}
 use Rattle.logs.specs.Verbatim.{message-verbatim}
 use Rattle.logs.specs.Follows.{Runs}
-use Rattle.logs.specs.Started.{Started, calls, has-started, accepted-runs, log-written, runs-later, right-lines, among-lines, end-queue, same-plan, same-runs}
+use Rattle.logs.specs.Started.{Started, calls, has-started, accepted-runs, log-written, runs-later, right-lines, among-lines, end-queue}
+use Rattle.logs.specs.Started.{same-plan, same-runs}
 
 -- What the program writes of a text, in whatever blocks the text came and with or without a line feed at its end, is the log's answers.
 pub output-is-the-log : (m text : List ℕ) (f : Feeding) → Answered (opened m) [] text f →
@@ -93,7 +95,8 @@ module _ (m : List ℕ) (lines : List (List ℕ)) (accepted : AcceptedIn (sessio
 
 -- Two sessions with the same table, in which the same was stored on queue q, in whatever order and at whatever ticks, and with whatever other
 -- lines between: a job of q's receiver that was answered 87 in both got the same 85 and 86 lines, digit by digit.
-pub same-lines : (m m′ : List ℕ) (lines lines′ : List (List ℕ)) → AcceptedIn (sessionLog m lines) → AcceptedIn (sessionLog m′ lines′) →
+pub same-lines : (m m′ : List ℕ) (lines lines′ : List (List ℕ)) →
+    AcceptedIn (sessionLog m lines) → AcceptedIn (sessionLog m′ lines′) →
     SameTable (deskAfter m lines) (deskAfter m′ lines′) → (q k : ℕ) →
     ((n : ℕ) (payload : List ℕ) → StoredIn (sessionLog m lines) q n payload ↔ StoredIn (sessionLog m′ lines′) q n payload) →
     EndedIn (deskAfter m lines .plan) q k (sessionLog m lines) → EndedIn (deskAfter m′ lines′ .plan) q k (sessionLog m′ lines′) →

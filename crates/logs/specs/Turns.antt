@@ -54,7 +54,8 @@ module _ (d : Desk) (m : List ℕ) (e : d .running ≡ false) where
   stopped : {f : Frame} (x y : Turn) → Waits d m f y → Waits d m f (cond (d .running) x y)
   stopped {f} x y h = subst (λ (b : Bool). Waits d m f (cond b x y)) (sym e) h
 
-  row-waits : (f : Frame) (full : Bool) (more : Desk) → more .running ≡ false → ((answer : List ℕ) → Quiet f answer) → Waits d m f (rowTurn d m full more)
+  row-waits : (f : Frame) (full : Bool) (more : Desk) → more .running ≡ false → ((answer : List ℕ) → Quiet f answer) →
+      Waits d m f (rowTurn d m full more)
   unfolding rowTurn
   row-waits f full more g quiet = stopped (bad d m) _ (go full)
     where
@@ -62,7 +63,8 @@ module _ (d : Desk) (m : List ℕ) (e : d .running ≡ false) where
       go true = waits e refl (quiet _)
       go false = waits g refl (quiet _)
 
-  start-waits : (a : Started) → Made (planned d .plan) → startAnswer (planned d .plan) m ≡ a → Waits d m Frame.Go (startTurn d (planned d .plan) m a)
+  start-waits : (a : Started) → Made (planned d .plan) → startAnswer (planned d .plan) m ≡ a →
+      Waits d m Frame.Go (startTurn d (planned d .plan) m a)
   start-waits Started.Ready made s = starts refl made s
   start-waits (Started.Refused r) made s = waits refl refl tt
 

@@ -1,9 +1,9 @@
 -- The digits of a payload in an 85 are those of the 04 that stored it, one by one.
-use Rattle.common.specs.Words.{ℕ, zero, suc, _+_, _-_, _*_, _/_, _%_, _<_, _≤_, arith, Bool, true, false, cond, List, [], _∷_, _++_, append-assoc}
-use Rattle.common.specs.Words.{append-nil, _⊎_, inl, inr, ⊎-elim, _≡_, refl, sym, ap, subst, _∙_, length, getD, drop, ext-getD, div-add-mod'}
-use Rattle.common.specs.Words.{le-leb, lt-leb, le-ltb, lt-ltb, ltb-true, leb, ltb}
+use Rattle.common.specs.Words.{ℕ, zero, suc, _+_, _-_, _*_, _/_, _%_, _<_, _≤_, arith, Bool, true, false, cond, List, [], _∷_, _++_}
+use Rattle.common.specs.Words.{append-assoc, append-nil, _⊎_, inl, inr, ⊎-elim, _≡_, refl, sym, ap, _∙_, length, getD, drop, ext-getD}
+use Rattle.common.specs.Words.{le-leb, lt-leb, le-ltb, lt-ltb, ltb-true}
 use Rattle.common.specs.Tests.{lt-or-le, and-right}
-use Rattle.common.specs.Rows.{every, every-at}
+use Rattle.common.specs.Rows.{every-at}
 use Rattle.common.specs.Table.{table-at}
 use Rattle.digits.specs.Hex.{noDigit, digit, digitAt, evenLine, isLine, byteAt, bytesIn, letter, digits}
 use Rattle.digits.specs.HexLaws.{digit-or-none, digits-append, digits-length, bytes-count, line-even, halves}
@@ -22,8 +22,8 @@ digit-back : (c : ℕ) → digit c < noDigit → letter (digit c) ≡ c
 unfolding digit
 digit-back c = go (lt-or-le c 0x30) (lt-or-le 0x39 c) (lt-or-le c 0x61) (lt-or-le 0x66 c)
   where
-    go : (c < 0x30) ⊎ (0x30 ≤ c) → (0x39 < c) ⊎ (c ≤ 0x39) → (c < 0x61) ⊎ (0x61 ≤ c) → (0x66 < c) ⊎ (c ≤ 0x66) → digit c < noDigit →
-        letter (digit c) ≡ c
+    go : (c < 0x30) ⊎ (0x30 ≤ c) → (0x39 < c) ⊎ (c ≤ 0x39) → (c < 0x61) ⊎ (0x61 ≤ c) → (0x66 < c) ⊎ (c ≤ 0x66) →
+        digit c < noDigit → letter (digit c) ≡ c
     go (inl w) x y z = rw (lt-ltb c 0x30 w) (λ h. absurd (omega arith))
     go (inr w) (inr x) y z = rw (le-ltb c 0x30 w, le-leb c 0x39 x) (λ h. rw (lt-ltb (c - 0x30) 10 (omega arith)) (omega arith))
     go (inr w) (inl x) (inl y) z = rw (le-ltb c 0x30 w, lt-leb c 0x39 x, lt-ltb c 0x61 y) (λ h. absurd (omega arith))
@@ -82,7 +82,8 @@ digits-drop (suc n) [] = let e : 2 * suc n ≡ suc (suc (2 * n)) = omega arith i
 digits-drop (suc n) (b ∷ bs) = let e : 2 * suc n ≡ suc (suc (2 * n)) = omega arith in rw e (digits-drop n bs)
 
 -- a line that is a frame holds bytes
-frame-line : (line : List ℕ) (q i : ℕ) (t : Tick) → frameIn line ≡ Frame.Send q i t → (isLine line ≡ true) × (framedBytes line ≡ bytesIn line)
+frame-line : (line : List ℕ) (q i : ℕ) (t : Tick) → frameIn line ≡ Frame.Send q i t →
+    (isLine line ≡ true) × (framedBytes line ≡ bytesIn line)
 unfolding framedBytes frameOf
 frame-line line q i t e = go (isLine line) refl e
   where

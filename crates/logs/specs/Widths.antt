@@ -1,12 +1,12 @@
 -- What an answer has to say fits the bytes that its line has for it: numbers, slots, sizes, senders and rows, on every input. It leans on
 -- history's cases of a call and on the limits of a sound plan.
-use Rattle.common.specs.Words.{ℕ, _*_, _/_, _%_, _^_, _<_, _≤_, arith, Bool, true, false, _&&_, List, [], _∷_, _++_, _⊎_, inl, inr, _≡_, refl, sym, subst}
-use Rattle.common.specs.Words.{ap, _∙_, drop, ltb, ltb-true, not-false, mod-lt, mul-le-mul, div-mul-le-self}
+use Rattle.common.specs.Words.{ℕ, _*_, _%_, _^_, _<_, _≤_, arith, Bool, true, _&&_, List, [], _∷_, _++_, _⊎_, inl, inr, _≡_, refl, sym}
+use Rattle.common.specs.Words.{subst, ap, _∙_, drop, ltb, ltb-true, not-false, mod-lt, mul-le-mul, div-mul-le-self}
 use Rattle.common.specs.Tests.{both, having}
-use Rattle.model.specs.Model.{Queue, receiverPeriod, deadlineOf, upTo, number, last, senderOf}
+use Rattle.model.specs.Model.{Queue, Sender, receiverPeriod, deadlineOf, number, upTo, last, senderOf}
 use Rattle.model.specs.Number.{upTo-le, upTo-mono, number-below}
 use Rattle.model.specs.WayBack.{way-there}
-use Rattle.plan.specs.Limits.{taskLimit, lastTick}
+use Rattle.plan.specs.Limits.{lastTick}
 use Rattle.plan.specs.Plan.{queueAt, sizeAt}
 use Rattle.plan.specs.Sound.{Sound, sound-iff}
 use Rattle.plan.specs.Facts.{Counts, counts-iff}
@@ -16,12 +16,12 @@ use Rattle.plan.specs.Verdicts.{Passed, Stopped, passed-or-stopped, passed-good
 use Rattle.tables.specs.Table.{tabled}
 use Rattle.planning.specs.Accepted.{plan-lines}
 use Rattle.planning.specs.Planning.{longQueue, firstLines, tableLines, refusedPlan, accepted as acceptedPlan, planOf}
-use Rattle.mailbox.specs.Calls.{startLines, startAnswer, sendLines, sendAnswer, receiveLines, look, receivingJob}
+use Rattle.mailbox.specs.Calls.{startLines, startAnswer, sendLines, sendAnswer, receiveLines, look, runningJob, receivingJob}
 use Rattle.mailbox.specs.Refused.{start-refused, send-refused, receive-refused}
-use Rattle.history.specs.History.{World, send, accepted, ofGap, ofMessage}
-use Rattle.history.specs.Steps.{Step, sends, stays, step, send-stores, numberAt, CanSend, CanReceive, next, lastAt}
+use Rattle.history.specs.History.{World, send, accepted, ofGap}
+use Rattle.history.specs.Steps.{Step, sends, stays, step, send-stores, numberAt, next}
 use Rattle.history.specs.Ground.{valid-at}
-use Rattle.history.specs.Answers.{Answered, finding, missing, ended, refused, answered-so, Told, told, told-window}
+use Rattle.history.specs.Answers.{Answered, finding, missing, ended, refused, answered-so, told, told-window}
 use Rattle.history.specs.Holds.{ready-sound}
 use Rattle.logs.specs.Types.{Plan, Refusal, Answer, Planned, Started, Sent, Received, State}
 
@@ -46,6 +46,9 @@ module _ {p : Plan} (sound : Sound p) (q : ℕ) (counted : q < p .queues) where
   -- the most that are counted: 16 tasks, one message a tick
   count-small : (t : ℕ) → t ≤ lastTick → upTo Q t < 256 ^ 6
   count-small t h = omega (arith, upTo-le Q (valid-at sound q counted) t, mul-le-mul (sound .checked .tasks-fit) h)
+
+  number-small : (i k : ℕ) → Sender Q i → deadlineOf Q i k ≤ lastTick → number Q i k < 256 ^ 6
+  number-small i k s h = omega (arith, number-below Q (valid-at sound q counted) i k s, count-small (deadlineOf Q i k) h)
 
   slot-small : (n : ℕ) → n % sizeAt p q < 256 ^ 2
   slot-small n = omega (arith, mod-lt n (sound .size-pos q counted), sound .size-fits q counted)
@@ -86,15 +89,15 @@ module _ (s : State) (p : Plan) (m : List ℕ) where
   send-fits q i t payload (Sent.Refused r) e = row-small (sendLines s p m q i t payload) r refl (send-refused s p m q i t payload r .0 e)
   send-fits q i t payload (Sent.Stored n at) e = go e (step p w (send q i t payload))
     where
-      go : {w′ : World} → sendAnswer s p m q i t payload ≡ Sent.Stored n at → Step p w (send q i t payload) w′ → SentFits (Sent.Stored n at)
+      go : {w′ : World} → sendAnswer s p m q i t payload ≡ Sent.Stored n at → Step p w (send q i t payload) w′ →
+          SentFits (Sent.Stored n at)
       go e (stays quiet) = absurd (quiet .no-send q (n .0) payload (accepted e))
       go e (sends can) =
           let sound : Sound p = can .ground .sound in
-          let N : ℕ = numberAt p w q i t in
-          let Qq : Queue = queueAt p q in
-          let k : ℕ = t / Qq .period i in
-          subst SentFits (sym (send-stores p w q i t payload can) ∙ e)
-          (omega (arith, number-below Qq (valid-at sound q (can .queue)) i k (can .sender), count-small sound q (can .queue) _ (can .deadline-within)), slot-small sound q (can .queue) N)
+          subst SentFits (sym (send-stores p w q i t payload can) ∙ e) (
+            number-small sound q (can .queue) i (runningJob (queueAt p q) i t) (can .sender) (can .deadline-within),
+            slot-small sound q (can .queue) (numberAt p w q i t),
+          )
 
   pub receive-fits : (q t : ℕ) (a : Received) → look s p m q t ≡ a → ReceivedFits a
   receive-fits q t a e = go (answered-so p w q t a e) e
@@ -105,7 +108,8 @@ module _ (s : State) (p : Plan) (m : List ℕ) where
           let sound : Sound p = can .ground .sound in
           let k = told-window sound (told {w = w} (missing can l d) ofGap) in (
             omega (arith, l, last-small sound q (can .queue) t (can .tick-within)),
-            sender-small sound q (can .queue) (next p w q t) (omega (arith, k .0)) (omega (arith, l, last-within sound q (can .queue) t (can .tick-within))),
+            sender-small sound q (can .queue) (next p w q t) (omega (arith, k .0))
+                (omega (arith, l, last-within sound q (can .queue) t (can .tick-within))),
           )
       go (ended can l) e = tt
       go (refused {r = r}) e = row-small (receiveLines s p m q t) r refl (receive-refused s p m q t r .0 e)
@@ -153,11 +157,14 @@ module _ (tasks queues : ℕ) (period deadline receiver : List ℕ) (square : Li
       go : Passed lines ⊎ ((s : Refusal) × Stopped lines s) → r .row < 256
       go (inl h) =
           let a : Answer.Refused r ≡ Answer.Accepted =
-          sym e ∙ ap (λ (x : Planned). x .answer) (plan-lines tasks queues period deadline receiver square ∙ passed-good lines refusedPlan (acceptedPlan T) h) in
+          sym e
+          ∙ ap (λ (x : Planned). x .answer)
+          (plan-lines tasks queues period deadline receiver square ∙ passed-good lines refusedPlan (acceptedPlan T) h) in
           absurd (let z : _≡_ {A = ℕ} 0 1 = cc in omega arith)
       go (inr h) =
           let a : Answer.Refused r ≡ Answer.Refused (h .0) =
           sym e
-          ∙ ap (λ (x : Planned). x .answer) (plan-lines tasks queues period deadline receiver square ∙ stopped-refused lines (h .0) refusedPlan (acceptedPlan T) (h .1)) in
+          ∙ ap (λ (x : Planned). x .answer)
+          (plan-lines tasks queues period deadline receiver square ∙ stopped-refused lines (h .0) refusedPlan (acceptedPlan T) (h .1)) in
           let same : r ≡ h .0 = cc in
           rw same (named-small (h .0) (h .1))
