@@ -5,8 +5,7 @@ use Rattle.plan.specs.Plan.{queueAt}
 use Rattle.planning.specs.Accepted.{Made}
 use Rattle.mailbox.specs.Calls.{fresh, startAnswer, startMemory, sendAnswer, sendState, sendMemory, look, receiveState, receivingJob}
 use Rattle.frames.specs.Answers.{sizesBytes, badBytes, lineOf}
-use Rattle.console.specs.Framing.{line-framed}
-use Rattle.console.specs.Desk.{Turn, says, planned, withRun, withState, sentBytes, filler, receivedBytes, bytesTurn, lineTurn}
+use Rattle.console.specs.Desk.{Turn, says, planned, withRun, withState, sentBytes, filler, receivedBytes, lineTurn}
 use Rattle.feed.specs.Answers as feed
 use Rattle.history.specs.History.{Call, send, receive, World, History, start, _then_, same, more, Begins, after, world, sendSays, receiveSays, goOn}
 use Rattle.history.specs.History.{history, SentIn, Sends, reads, readBy, ReadToEnd}
@@ -14,6 +13,7 @@ use Rattle.history.specs.Lists.{goOn-append}
 use Rattle.logs.specs.Types.{Tick, Plan, Started, Received, Frame, Desk}
 use Rattle.logs.specs.Said.{frameIn, payloadOf}
 use Rattle.logs.specs.Log.{Entry, Log, logOf, opened, callOf, callsIn, Stores, StoredIn, linesTo, Ends, EndedIn}
+use Rattle.logs.specs.Frames.{sending, receiving, line-turn}
 use Rattle.logs.specs.Turns.{Acts, sends, receives, idles, running-acts, Quiet, Waits, starts, waits, waiting}
 use Rattle.logs.specs.Entries.{stored-append, ended-append, lines-append, quiet-stores, quiet-ends, quiet-lines, lineFor, sent-stores}
 use Rattle.logs.specs.Entries.{sent-ends, sent-lines, received-stores, received-empty, received-lines}
@@ -140,10 +140,7 @@ module _ {p : Plan} {m : List ℕ} {H : History} {w : feed.World} {log : Log} (r
   -- a 04
   module _ (q i : ℕ) (t : Tick) (asked : frameIn line ≡ Frame.Send q i t) where
     abbrev sendingTurn : Turn
-    sendingTurn =
-        says (withState d (sendState (d .state) (d .plan) (w .memory) q i (t .0) payload))
-        (sendMemory (d .state) (d .plan) (w .memory) q i (t .0) payload)
-        (sentBytes (sendAnswer (d .state) (d .plan) (w .memory) q i (t .0) payload))
+    sendingTurn = sending d (w .memory) q i t payload
 
     abbrev sendCall : Call
     sendCall = send q i (t .0) payload
@@ -174,9 +171,7 @@ module _ {p : Plan} {m : List ℕ} {H : History} {w : feed.World} {log : Log} (r
   -- a 05
   module _ (q : ℕ) (t : Tick) (asked : frameIn line ≡ Frame.Receive q t) where
     abbrev receivingTurn : Turn
-    receivingTurn =
-        says (withState d (receiveState (d .state) (d .plan) (w .memory) q (t .0))) (w .memory)
-        (receivedBytes (w .memory) (look (d .state) (d .plan) (w .memory) q (t .0)))
+    receivingTurn = receiving d (w .memory) q t
 
     abbrev receiveCall : Call
     receiveCall = receive q (t .0)
@@ -216,9 +211,8 @@ module _ {p : Plan} {m : List ℕ} {H : History} {w : feed.World} {log : Log} (r
 
   pub run-line : Runs p m (goOn H (callOf payload (frameIn line))) (feed.next w line)
       (log ++ (record { line = line; answer = feed.reply w line } ∷ []))
-  unfolding bytesTurn
   run-line =
-      subst (Goal (frameIn line)) (sym (line-framed d (w .memory) line)) (acts refl (running-acts d (w .memory) payload (frameIn line) (r .on)))
+      subst (Goal (frameIn line)) (sym (line-turn d (w .memory) line)) (acts refl (running-acts d (w .memory) payload (frameIn line) (r .on)))
 
 -- ## Lines one after another
 
@@ -327,10 +321,10 @@ module _ (m : List ℕ) where
         opening p = says (withRun (w .desk) p fresh) (startMemory p (w .memory)) (sizesBytes (p .size) (p .queues))
 
   comes : (w : feed.World) (log : Log) (ls : List (List ℕ)) → w .desk .running ≡ false → w .memory ≡ m → Silent log → Comes m w log ls
-  unfolding feed.worldAfter bytesTurn
+  unfolding feed.worldAfter
   comes w log [] off lent silent = never off
   comes w log (l ∷ ls) off lent silent =
-      by-turn w log l ls lent silent refl (line-framed (w .desk) (w .memory) l) (waiting (w .desk) (w .memory) off (payloadOf l) (frameIn l))
+      by-turn w log l ls lent silent refl (line-turn (w .desk) (w .memory) l) (waiting (w .desk) (w .memory) off (payloadOf l) (frameIn l))
       (λ v log′ a b c. comes v log′ ls a b c)
 
   -- a session of the program

@@ -5,6 +5,7 @@ pub mod Log
 pub mod Fields
 pub mod Lines
 pub mod Widths
+pub mod Frames
 pub mod ReadBack
 pub mod Turns
 pub mod Entries

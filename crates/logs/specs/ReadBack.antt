@@ -9,12 +9,12 @@ use Rattle.running.specs.View.{viewOf}
 use Rattle.digits.specs.Numbers.{valueAt, inBytes}
 use Rattle.digits.specs.NumberLaws.{value-back}
 use Rattle.frames.specs.Answers.{lineOf}
-use Rattle.console.specs.Framing.{line-framed}
-use Rattle.console.specs.Desk.{Turn, silent, bad, rowTurn, withTask, withQueue, planned, squareOf, startTurn, planTurn, goTurn, sentBytes, sendTurn}
-use Rattle.console.specs.Desk.{filler, receivedBytes, receiveTurn, frameTurn, bytesTurn, lineTurn}
+use Rattle.console.specs.Desk.{Turn, silent, bad, rowTurn, withTask, withQueue, planned, squareOf, startTurn, planTurn, goTurn, sentBytes, filler}
+use Rattle.console.specs.Desk.{receivedBytes, lineTurn}
 use Rattle.logs.specs.Types.{Plan, Answer, Started, Sent, Received, Frame, Desk}
 use Rattle.logs.specs.Said.{frameIn, payloadOf, saidIn, receivedTold, startTold, planTold, badTold, nothingTold, rowTold, frameTold}
 use Rattle.logs.specs.Lines.{stored-back, gap-back, message-back, empty-back, bad-back, nothing-back, refusal-back, sizes-back}
+use Rattle.logs.specs.Frames.{turnOf, line-turn}
 use Rattle.logs.specs.Widths.{SentFits, ReceivedFits, StartedFits, send-fits, receive-fits, start-fits, planning-fits}
 
 pub sent-back : (a : Sent) → SentFits a → saidIn (lineOf (sentBytes a)) ≡ sentSays a
@@ -51,8 +51,8 @@ plan-tells d m Answer.Accepted e = start-tells d (planned d .plan) m (startAnswe
 plan-tells d m (Answer.Refused r) e =
     refusal-back r (planning-fits (d .tasks) (d .queues) (d .period) (d .deadline) (d .receiver) (squareOf (d .senders)) r e)
 
-frame-tells : (d : Desk) (m payload : List ℕ) (f : Frame) → Tells (frameTurn d m payload f) (frameTold d m payload f)
-unfolding goTurn sendTurn receiveTurn frameTold
+frame-tells : (d : Desk) (m payload : List ℕ) (f : Frame) → Tells (turnOf d m payload f) (frameTold d m payload f)
+unfolding goTurn frameTold
 frame-tells d m payload (Frame.Task period deadline) = row-tells d m (leb taskLimit (d .tasks)) (withTask d period deadline)
 frame-tells d m payload (Frame.Queue receiver mask) = row-tells d m (leb queueLimit (d .queues)) (withQueue d receiver mask)
 frame-tells d m payload Frame.Go = tells-if (d .running) (bad d m) _ badTold _ bad-back (plan-tells d m (planned d .answer) refl)
@@ -67,8 +67,7 @@ frame-tells d m payload (Frame.Receive q t) =
 frame-tells d m payload Frame.Bad = bad-back
 
 pub read-back : (d : Desk) (m line : List ℕ) → saidIn (lineTurn d m line .answer) ≡ frameTold d m (payloadOf line) (frameIn line)
-unfolding bytesTurn
-read-back d m line = rw (line-framed d m line) (frame-tells d m (payloadOf line) (frameIn line))
+read-back d m line = rw (line-turn d m line) (frame-tells d m (payloadOf line) (frameIn line))
 
 -- No answer writes a tick. The 5 bytes that a 04 and a 05 have for one hold every tick up to the last.
 pub tick-back : (t : ℕ) → t ≤ lastTick → valueAt (inBytes 5 t) 0 5 ≡ t

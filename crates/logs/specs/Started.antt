@@ -4,8 +4,7 @@ use Rattle.common.specs.Words.{_∙_}
 use Rattle.common.specs.Tests.{clash}
 use Rattle.planning.specs.Accepted.{Made}
 use Rattle.mailbox.specs.Calls.{startAnswer}
-use Rattle.console.specs.Framing.{line-framed}
-use Rattle.console.specs.Desk.{Turn, bad, planned, withRun, startTurn, planTurn, goTurn, withState, filler, frameTurn, bytesTurn, lineTurn}
+use Rattle.console.specs.Desk.{Turn, bad, planned, withRun, startTurn, planTurn, goTurn, withState, filler, lineTurn}
 use Rattle.feed.specs.Answers as feed
 use Rattle.history.specs.History.{World, History, Begins, world, history, goOn, Reading, numberTold, numbers, Fair, asSent, nothingSent, SentIn}
 use Rattle.history.specs.History.{AllFair, Among as AmongReadings, ReadToEnd}
@@ -14,6 +13,7 @@ use Rattle.history.specs.Theorems.{same-readings}
 use Rattle.logs.specs.Types.{Plan, Answer, Planned, Started as Start, Received, Frame, Desk}
 use Rattle.logs.specs.Said.{frameIn, payloadOf, codeIn}
 use Rattle.logs.specs.Lines.{refusal-code}
+use Rattle.logs.specs.Frames.{turnOf, line-turn}
 use Rattle.logs.specs.Turns.{Acts, sends, receives, idles, running-acts}
 use Rattle.logs.specs.Log.{Log, logOf, written, opened, sessionLog, deskAfter, callsIn, AcceptedIn, SameTable, StoredIn, linesTo, EndedIn}
 use Rattle.logs.specs.Log.{RightLine, asStored, nothingStored, RightLines, Among}
@@ -86,21 +86,21 @@ module _ (d : Desk) (m : List ℕ) where
   acts-on on (idles e) = on
 
 runs-on : (w : feed.World) (ls : List (List ℕ)) → w .desk .running ≡ true → feed.worldAfter w ls .desk .running ≡ true
-unfolding feed.worldAfter bytesTurn
+unfolding feed.worldAfter
 runs-on w [] on = on
 runs-on w (l ∷ ls) on =
     let d : Desk = w .desk in
     runs-on (feed.next w l) ls
-    (rw (line-framed d (w .memory) l) (acts-on d (w .memory) on (running-acts d (w .memory) (payloadOf l) (frameIn l) on)))
+    (rw (line-turn d (w .memory) l) (acts-on d (w .memory) on (running-acts d (w .memory) (payloadOf l) (frameIn l) on)))
 
 -- an 03 that is answered 81 is accepted
 pub accepted-runs : (w : feed.World) (ls : List (List ℕ)) → AcceptedIn (logOf w ls) → feed.worldAfter w ls .desk .running ≡ true
-unfolding feed.worldAfter logOf bytesTurn
+unfolding feed.worldAfter logOf
 accepted-runs w [] a = absurd a
 accepted-runs w (l ∷ ls) (inl a) =
     let d : Desk = w .desk in
     let e : lineTurn d (w .memory) l ≡ goTurn d (w .memory) =
-    line-framed d (w .memory) l ∙ ap (λ (f : Frame). frameTurn d (w .memory) (payloadOf l) f) (a .asked) in
+    line-turn d (w .memory) l ∙ ap (λ (f : Frame). turnOf d (w .memory) (payloadOf l) f) (a .asked) in
     runs-on (feed.next w l) ls (subst (Says81 d (w .memory)) (sym e) (go-81 d (w .memory)) (a .told))
 accepted-runs w (l ∷ ls) (inr a) = accepted-runs (feed.next w l) ls a
 

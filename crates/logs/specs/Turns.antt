@@ -3,29 +3,24 @@
 use Rattle.common.specs.Words.{ℕ, Bool, true, false, cond, List, [], _≡_, refl, sym, subst, leb}
 use Rattle.plan.specs.Limits.{taskLimit, queueLimit}
 use Rattle.planning.specs.Accepted.{Made, accepted-made}
-use Rattle.mailbox.specs.Calls.{fresh, startAnswer, startMemory, sendAnswer, sendState, sendMemory, look, receiveState}
+use Rattle.mailbox.specs.Calls.{fresh, startAnswer, startMemory}
 use Rattle.frames.specs.Answers.{sizesBytes}
 use Rattle.console.specs.Desk.{Turn, silent, says, bad, rowTurn, withTask, withQueue, squareOf, planned, withRun, startTurn, planTurn, goTurn}
-use Rattle.console.specs.Desk.{withState, sentBytes, sendTurn, receivedBytes, receiveTurn, frameTurn}
 use Rattle.logs.specs.Types.{Tick, Plan, Answer, Started, Frame, Desk}
 use Rattle.logs.specs.Said.{codeIn}
 use Rattle.logs.specs.Lines.{bad-code}
+use Rattle.logs.specs.Frames.{sending, receiving, turnOf}
 use Rattle.logs.specs.Log.{callOf}
 
 -- ## On a desk that runs
 
 pub data Acts (d : Desk) (m payload : List ℕ) : Frame → Turn → Type 0 where
-  sends : {q i : ℕ} {t : Tick} →
-      Acts d m payload (Frame.Send q i t)
-      (says (withState d (sendState (d .state) (d .plan) m q i (t .0) payload)) (sendMemory (d .state) (d .plan) m q i (t .0) payload)
-      (sentBytes (sendAnswer (d .state) (d .plan) m q i (t .0) payload)))
-  receives : {q : ℕ} {t : Tick} →
-      Acts d m payload (Frame.Receive q t)
-      (says (withState d (receiveState (d .state) (d .plan) m q (t .0))) m (receivedBytes m (look (d .state) (d .plan) m q (t .0))))
+  sends : {q i : ℕ} {t : Tick} → Acts d m payload (Frame.Send q i t) (sending d m q i t payload)
+  receives : {q : ℕ} {t : Tick} → Acts d m payload (Frame.Receive q t) (receiving d m q t)
   idles : {f : Frame} → callOf payload f ≡ [] → Acts d m payload f (bad d m)
 
-pub running-acts : (d : Desk) (m payload : List ℕ) (f : Frame) → d .running ≡ true → Acts d m payload f (frameTurn d m payload f)
-unfolding rowTurn goTurn sendTurn receiveTurn
+pub running-acts : (d : Desk) (m payload : List ℕ) (f : Frame) → d .running ≡ true → Acts d m payload f (turnOf d m payload f)
+unfolding rowTurn goTurn
 running-acts d m payload (Frame.Task period deadline) e = rw e (idles refl)
 running-acts d m payload (Frame.Queue receiver mask) e = rw e (idles refl)
 running-acts d m payload Frame.Go e = rw e (idles refl)
@@ -75,8 +70,8 @@ module _ (d : Desk) (m : List ℕ) (e : d .running ≡ false) where
       (accepted-made (d .tasks) (d .queues) (d .period) (d .deadline) (d .receiver) (squareOf (d .senders)) a) refl
   plan-waits (Answer.Refused r) a = waits refl refl tt
 
-  pub waiting : (payload : List ℕ) (f : Frame) → Waits d m f (frameTurn d m payload f)
-  unfolding withTask withQueue goTurn sendTurn receiveTurn
+  pub waiting : (payload : List ℕ) (f : Frame) → Waits d m f (turnOf d m payload f)
+  unfolding withTask withQueue goTurn
   waiting payload (Frame.Task period deadline) =
       row-waits (Frame.Task period deadline) (leb taskLimit (d .tasks)) (withTask d period deadline) e (λ answer. tt)
   waiting payload (Frame.Queue receiver mask) =
