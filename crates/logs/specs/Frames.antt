@@ -1,0 +1,37 @@
+-- The turn of a line, case by case: what the proofs of this crate know of the console's own definition, and all that they know of it.
+use Rattle.common.specs.Words.{ℕ, cond, List, _≡_, refl, _∙_}
+use Rattle.mailbox.specs.Calls.{sendAnswer, sendState, sendMemory, look, receiveState}
+use Rattle.console.specs.Framing.{line-framed}
+use Rattle.console.specs.Desk.{Turn, says, bad, taskTurn, queueTurn, goTurn, withState, sentBytes, sendTurn, receivedBytes, receiveTurn, frameTurn}
+use Rattle.console.specs.Desk.{bytesTurn, lineTurn}
+use Rattle.logs.specs.Types.{Tick, Frame, Desk}
+use Rattle.logs.specs.Said.{frameIn, payloadOf}
+
+abbrev pub sending : Desk → List ℕ → ℕ → ℕ → Tick → List ℕ → Turn
+sending d m q i t payload =
+    says (withState d (sendState (d .state) (d .plan) m q i (t .0) payload)) (sendMemory (d .state) (d .plan) m q i (t .0) payload)
+    (sentBytes (sendAnswer (d .state) (d .plan) m q i (t .0) payload))
+
+abbrev pub receiving : Desk → List ℕ → ℕ → Tick → Turn
+receiving d m q t = says (withState d (receiveState (d .state) (d .plan) m q (t .0))) m (receivedBytes m (look (d .state) (d .plan) m q (t .0)))
+
+abbrev pub turnOf : Desk → List ℕ → List ℕ → Frame → Turn
+turnOf d m payload (Frame.Task period deadline) = taskTurn d m period deadline
+turnOf d m payload (Frame.Queue receiver mask) = queueTurn d m receiver mask
+turnOf d m payload Frame.Go = goTurn d m
+turnOf d m payload (Frame.Send q i t) = cond (d .running) (sending d m q i t payload) (bad d m)
+turnOf d m payload (Frame.Receive q t) = cond (d .running) (receiving d m q t) (bad d m)
+turnOf d m payload Frame.Bad = bad d m
+
+frame-turn : (d : Desk) (m payload : List ℕ) (f : Frame) → frameTurn d m payload f ≡ turnOf d m payload f
+unfolding sendTurn receiveTurn
+frame-turn d m payload (Frame.Task period deadline) = refl
+frame-turn d m payload (Frame.Queue receiver mask) = refl
+frame-turn d m payload Frame.Go = refl
+frame-turn d m payload (Frame.Send q i t) = refl
+frame-turn d m payload (Frame.Receive q t) = refl
+frame-turn d m payload Frame.Bad = refl
+
+pub line-turn : (d : Desk) (m line : List ℕ) → lineTurn d m line ≡ turnOf d m (payloadOf line) (frameIn line)
+unfolding bytesTurn
+line-turn d m line = line-framed d m line ∙ frame-turn d m (payloadOf line) (frameIn line)
