@@ -60,8 +60,8 @@ fn answer_block(
 }
 
 // Answers a last line without its end.
-fn answer_last(desk: Desk, memory: &mut [u8], held: &[u8], used: usize, out: &mut [u8])
-    requires { ⌜ (used ≤ length (now held)) × (enough ≤ length (now out)) ⌝ }
+fn answer_last(desk: Desk, memory: &mut [u8], held: &mut [u8], used: usize, out: &mut [u8])
+    requires { ⌜ (used ≤ kept) × (kept ≤ length (now held)) × (enough ≤ length (now out)) × Kept desk ⌝ }
 {
     let s = feed::finish(desk, memory, held, used, out);
     if s.written <= out.len() {

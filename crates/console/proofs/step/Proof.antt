@@ -17,7 +17,7 @@ taken c =
     let b = f .before .before .before in
     let a = b .before .before .before .before .before .before .args in
     step-taken (a .desk) (a .memory .now) (a .line .now) (a .out .now) (search needs) (b .bytes-in .ensures .1) (f .frame-of .ensures)
-    (p .payload-in .ensures) (w .act .ensures)
+    (p .payload-in .ensures .0) (w .act .ensures)
 
 pub step-spec : {M : Type 1} → statement M
 step-spec =

@@ -24,7 +24,7 @@ returns c =
     let xs = part (a .piece .now) (a .at) (a .end - a .at) in
     let joins : lineOf (j .join .last .0) (j .join .result) xs ≡ cut (take (a .used) (a .held .now) ++ xs) =
     rw (j .join .ensures .0, j .join .ensures .1) (line-is (a .held .now) (a .used) xs (k .pre .0) (k .pre .1)) in
-    (b .bytes-in .ensures .0, b .bytes-in .ensures .1 ∙ ap framedBytes (n .line-of .ensures ∙ joins))
+    (b .bytes-in .ensures .0, b .bytes-in .ensures .1 ∙ ap framedBytes (n .line-of .ensures .0 ∙ joins))
 
 pub bytes-until-spec : {M : Type 1} → statement M
 bytes-until-spec =

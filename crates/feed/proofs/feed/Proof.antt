@@ -142,7 +142,7 @@ module _ (c : tie.After-struct-known Inv-loop μ-loop) where
         same-size = c .before .before .before .before .before .memory .given;
         takes =
             call-taken (desk call-frame) _ _ _ (call-frame .frame-of .ensures) (i .before .is-call .ensures)
-            (called .before .before .payload-in .ensures) (i .if2 .taken) (called .call-line .ensures);
+            (called .before .before .payload-in .ensures .0) (i .if2 .taken) (called .call-line .ensures);
       }
 
 add-w : tie.Need-add-w Inv-loop μ-loop
