@@ -107,9 +107,3 @@ pub unsound-zeros : (room : Bool) (text : List ℕ) → (answer room text .answe
     (importOf room text .table ≡ noTable) × (importOf room text .plan ≡ zeros)
 unfolding importOf
 unsound-zeros room text h = let z = no-plan _ (answer room text .table) h in (z .0 ∙ no-table room text h, z .1)
-
--- ## Uniqueness
-
--- the contract determines the outcome
-pub plan-text-unique : (room : Bool) (text : List ℕ) (r s : Import) → r ≡ importOf room text → s ≡ importOf room text → r ≡ s
-plan-text-unique room text r s a b = a ∙ sym b

@@ -7,7 +7,8 @@ use reader::read_table;
 use soundness::square::square_of;
 ghost use Rattle.common.specs.Words.{_≡_, length};
 ghost use Rattle.reader.specs.Reader.{enough};
-ghost use Rattle.imports.specs.Imports.{planned, planningSays, unplanned, withPlan, importBy, importOf};
+ghost use Rattle.imports.specs.Imports.{planned, planningSays, unplanned, withPlan, importBy};
+ghost use Rattle.imports.specs.Unique.{ImportGives};
 
 // A refusal is the reader's, of the text, or planning's, of the table of a sound text. NoRoom is for memory that is too short for some text.
 pub enum Answer {
@@ -97,8 +98,8 @@ pub fn plan_text(
     queued: &mut [u32],
     types: &mut [u32],
 ) -> Import
-    ensures { λ r. ⌜ r ≡ importOf (enough (length (now (plain .entry))) (length (now (rows .entry))) (length (now (declared .entry)))
-        (length (now (connected .entry))) (length (now (queued .entry))) (length (now (types .entry)))) (now (text .entry)) ⌝ }
+    ensures { λ r. ⌜ ImportGives (enough (length (now (plain .entry))) (length (now (rows .entry))) (length (now (declared .entry)))
+        (length (now (connected .entry))) (length (now (queued .entry))) (length (now (types .entry)))) (now (text .entry)) r ⌝ }
 {
     import_by(read_table(text, plain, rows, declared, connected, queued, types))
 }

@@ -21,8 +21,9 @@ ghost use Rattle.index.specs.Index.{rowsIn, Indexed};
 ghost use Rattle.ways.specs.Ways.{Known};
 ghost use Rattle.verdict.specs.Verdict.{judged};
 ghost use Rattle.reader.specs.declared.Answer.the-variants.{Refused};
-ghost use Rattle.reader.specs.Reader.{mostBytes, endFaults, longFaults, numberOf, ruleOf, refusal, noTable, answered};
-ghost use Rattle.reader.specs.Reader.{plainText, answerRead, answerPlain, enough, answer, Fitting, Prepared};
+ghost use Rattle.reader.specs.Reader.{mostBytes, endFaults, longFaults, numberOf, ruleOf, refusal, noTable, answered, plainText};
+ghost use Rattle.reader.specs.Reader.{answerRead, answerPlain, enough, Fitting, Prepared};
+ghost use Rattle.reader.specs.Unique.{ReadGives};
 
 // Document 02's refusals, in the order of their numbers, 20 to 24.
 pub enum Rule {
@@ -342,8 +343,8 @@ pub fn read_table(
     queued: &mut [u32],
     types: &mut [u32],
 ) -> Read
-    ensures { λ r. ⌜ r ≡ answer (enough (length (now (plain .entry))) (length (now (rows .entry))) (length (now (declared .entry)))
-        (length (now (connected .entry))) (length (now (queued .entry))) (length (now (types .entry)))) (now (text .entry)) ⌝ }
+    ensures { λ r. ⌜ ReadGives (enough (length (now (plain .entry))) (length (now (rows .entry))) (length (now (declared .entry)))
+        (length (now (connected .entry))) (length (now (queued .entry))) (length (now (types .entry)))) (now (text .entry)) r ⌝ }
 {
     let room = is_enough(
         plain.len(),
