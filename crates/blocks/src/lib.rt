@@ -4,24 +4,96 @@
 use libc::STDERR_FILENO;
 use libc::STDIN_FILENO;
 use libc::STDOUT_FILENO;
-ghost use Prim.Native.Nat.{_≤_};
+ghost use Prim.Native.Nat.{_<_, _≤_};
+ghost use mathlib.Core.Bool.{true};
+ghost use mathlib.Core.Path.{_≡_};
 ghost use lib.ListN.{length};
+ghost use Rattle.blocks.specs.Stream.{Came, Gone, closed, mostBlocks};
 
-// Reads what there is, once, and answers how many bytes came: none at the end of the input. It does not wait for a full block, so that
-// a person or a pipe has the answer to a line before the next one is asked for.
-pub fn read_block(block: &mut [u8]) -> usize
-    ensures { λ r. ⌜ r ≤ length (now (block .entry)) ⌝ }
-{
-    let got = libc::read(STDIN_FILENO, block);
-    io::count(got, block)
+// Whether a program has to go on. Its fields are this crate's own, so that only a read that gave nothing and a write that failed close a
+// stream: a program whose contract asks for a closed one cannot give up before. A proved loop has to end, and nothing says that the
+// input does: so a stream counts its blocks down, from a number that no run uses up.
+pub struct Stream {
+    is_open: bool,
+    left: u64,
 }
 
-// Writes the first `written` bytes of a buffer, and answers whether all of them could be written. Where not, nobody reads them any
-// more, and the program has to end.
-pub fn write_answers(out: &[u8], written: usize) -> bool
-    requires { ⌜ written ≤ length (now out) ⌝ }
-{
-    io::write_all(STDOUT_FILENO, &out[..written])
+// A stream after a read, and how many bytes came.
+pub struct Reading {
+    pub stream: Stream,
+    pub bytes: usize,
+}
+
+impl Stream {
+    pub fn open() -> Stream
+        ensures { λ r. ⌜ r ≡ record { is_open = true; left = mostBlocks } ⌝ }
+    {
+        Stream {
+            is_open: true,
+            left: u64::MAX,
+        }
+    }
+
+    pub fn goes_on(self) -> bool
+        ensures { λ r. ⌜ r ≡ self .is_open ⌝ }
+    {
+        self.is_open
+    }
+
+    // Reads what there is, once; nothing comes at the end of the input. It does not wait for a full block, so that a person or a pipe
+    // has the answer to a line before the next one is asked for.
+    pub fn read_block(self, block: &mut [u8]) -> Reading
+        requires { ⌜ 0 < length (now block) ⌝ }
+        ensures { λ r. ⌜ Came self (length (now (block .entry))) r ⌝ }
+    {
+        if self.left == 0 {
+            return self.ended();
+        }
+        let got = libc::read(STDIN_FILENO, block);
+        let bytes = io::count(got, block);
+        if bytes == 0 {
+            return self.ended();
+        }
+        Reading {
+            stream: Stream {
+                is_open: self.is_open,
+                left: self.left - 1,
+            },
+            bytes,
+        }
+    }
+
+    fn ended(self) -> Reading
+        ensures { λ r. ⌜ r ≡ record { stream = closed self; bytes = 0 } ⌝ }
+    {
+        Reading {
+            stream: Stream {
+                is_open: false,
+                left: self.left,
+            },
+            bytes: 0,
+        }
+    }
+
+    fn closed(self) -> Stream
+        ensures { λ r. ⌜ r ≡ closed self ⌝ }
+    {
+        Stream {
+            is_open: false,
+            left: self.left,
+        }
+    }
+
+    // Writes the first `written` bytes of a buffer. Where they cannot be written nobody reads them any more, and the stream is closed.
+    pub fn write_answers(self, out: &[u8], written: usize) -> Stream
+        requires { ⌜ written ≤ length (now out) ⌝ }
+        ensures { λ r. ⌜ Gone self r ⌝ }
+    {
+        if io::write_all(STDOUT_FILENO, &out[..written]) {
+            return self;
+        }
+        self.closed()
+    }
 }
 
 // The first `written` bytes of a buffer, for a person. Nothing depends on whether they could be written.

@@ -19,7 +19,7 @@ pub record Comes (w : World) (c x : List ℕ) (after : World) (carry : List ℕ)
 pub record BlockGives (w : World) (c piece : List ℕ) (t : Turn) (memory held : List ℕ) : Type 0 where
   pub inside : t .next ≤ length piece
   pub comes : Comes w c (take (t .next) piece) (worldOf (t .desk) memory) (take (t .used) held)
-  pub whole : t .written ≡ true → t .next ≡ length piece
+  pub whole : t .stream .is_open ≡ true → t .next ≡ length piece
 
 -- ## The calls of feed, one after another
 

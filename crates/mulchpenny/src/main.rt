@@ -1,9 +1,10 @@
 // Mulchpenny's console: answers each line of standard input on standard output. Input is read in blocks, and the answers to a block are
 // out before the next read, so that a person or a pipe sees each answer at once. What is done with a block is proved, by `feed` and
 // `console`; what is read and written no contract can say, and .ci/programs tests it.
+use blocks::Stream;
 use console::Desk;
 use plan::Plan;
-ghost use Rattle.common.specs.Words.{_≤_, length, take};
+ghost use Rattle.common.specs.Words.{_≡_, _<_, _≤_, false, length, take};
 ghost use Rattle.console.specs.Kept.{Kept};
 ghost use Rattle.feed.specs.Feed.{enough};
 ghost use Rattle.feed.specs.Outcome.{worldOf};
@@ -12,12 +13,13 @@ ghost use Rattle.mulchpenny.specs.Block.{BlockGives};
 
 const MEMORY: usize = Plan::MOST_SLOTS * Plan::SLOT_BYTES;
 
-// The desk after a block, how much of a line is carried over, where in the block it stopped, and whether the answers could be written.
+// The desk after a block, how much of a line is carried over, where in the block it stopped, and the stream, which is closed where the
+// answers could not be written.
 struct Turn {
     desk: Desk,
     used: usize,
     next: usize,
-    written: bool,
+    stream: Stream,
 }
 
 // Answers the lines that end in a block: all of them, unless the answers cannot be written.
@@ -28,26 +30,29 @@ fn answer_block(
     used: usize,
     piece: &[u8],
     out: &mut [u8],
+    stream: Stream,
 ) -> Turn
     requires { ⌜ (used ≤ kept) × (kept ≤ length (now held)) × (enough ≤ length (now out)) × Kept desk ⌝ }
     ensures { λ r. ⌜ BlockGives (worldOf desk (now (memory .entry))) (take used (now (held .entry))) (now (piece .entry))
         r (now (memory .exit)) (now (held .exit)) ⌝ }
-    ensures { λ r. ⌜ (r .used ≤ kept) × Kept (r .desk) ⌝ }
+    ensures { λ r. ⌜ (r .used ≤ kept) × Kept (r .desk) × (r .stream .left ≡ stream .left) ⌝ }
 {
     let mut d = desk;
     let mut u = used;
     let mut at: usize = 0;
+    let mut s = stream;
     while at < piece.len() {
         let f = feed::feed(d, memory, held, u, piece, at, out);
         d = f.desk;
         u = f.used;
         at = f.next;
-        if !blocks::write_answers(out, f.written) {
+        s = s.write_answers(out, f.written);
+        if !s.goes_on() {
             return Turn {
                 desk: d,
                 used: u,
                 next: at,
-                written: false,
+                stream: s,
             };
         }
     }
@@ -55,41 +60,49 @@ fn answer_block(
         desk: d,
         used: u,
         next: at,
-        written: true,
+        stream: s,
     }
 }
 
 // Answers a last line without its end.
-fn answer_last(desk: Desk, memory: &mut [u8], held: &mut [u8], used: usize, out: &mut [u8])
+fn answer_last(
+    desk: Desk,
+    memory: &mut [u8],
+    held: &mut [u8],
+    used: usize,
+    out: &mut [u8],
+    stream: Stream,
+)
     requires { ⌜ (used ≤ kept) × (kept ≤ length (now held)) × (enough ≤ length (now out)) × Kept desk ⌝ }
 {
     let s = feed::finish(desk, memory, held, used, out);
     if s.written <= out.len() {
-        blocks::write_answers(out, s.written);
+        stream.write_answers(out, s.written);
     }
 }
 
-// A proved loop has to end, and nothing says that the input does: the loop counts its turns down from a number that no run uses up.
-fn answer_all(memory: &mut [u8], held: &mut [u8], piece: &mut [u8], out: &mut [u8])
-    requires { ⌜ (kept ≤ length (now held)) × (enough ≤ length (now out)) ⌝ }
+// Answers the whole input, block by block, until the stream is closed.
+fn answer_all(memory: &mut [u8], held: &mut [u8], piece: &mut [u8], out: &mut [u8]) -> Stream
+    requires { ⌜ (kept ≤ length (now held)) × (0 < length (now piece)) × (enough ≤ length (now out)) ⌝ }
+    ensures { λ r. ⌜ r .is_open ≡ false ⌝ }
 {
     let mut d = Desk::new();
     let mut u: usize = 0;
-    let mut turns = u64::MAX;
-    while turns > 0 {
-        let n = blocks::read_block(piece);
+    let mut s = Stream::open();
+    while s.goes_on() {
+        let r = s.read_block(piece);
+        s = r.stream;
+        let n = r.bytes;
         if n == 0 {
-            answer_last(d, memory, held, u, out);
-            return;
+            answer_last(d, memory, held, u, out, s);
+            return s;
         }
-        let t = answer_block(d, memory, held, u, &piece[..n], out);
-        if !t.written {
-            return;
-        }
+        let t = answer_block(d, memory, held, u, &piece[..n], out, s);
         d = t.desk;
         u = t.used;
-        turns -= 1;
+        s = t.stream;
     }
+    s
 }
 
 fn main() {

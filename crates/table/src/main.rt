@@ -1,6 +1,7 @@
 // From an AADL text to the console's lines: standard input is the text, standard output the lines of its table or the line that refuses
 // it, and standard error the refusal in words. No contract can say what is read or written: all that matters is proved in `imports` and
 // `report`. Where more comes than a text may have, one byte of it is read, which tells; the rest is left.
+use blocks::Stream;
 use frames::answers::write_refusal;
 use imports::Answer;
 use imports::Import;
@@ -24,14 +25,14 @@ const TEXT_ROOM: usize = MOST_BYTES + 1;
 fn print_table(plan: Plan) {
     let mut out = [0u8; LINES_ROOM];
     let n = write_table(&mut out, plan);
-    blocks::write_answers(&out, n);
+    Stream::open().write_answers(&out, n);
 }
 
 // What the reader refuses.
 fn print_unread(text: &[u8], refusal: reader::Refusal) {
     let mut out = [0u8; LINES_ROOM];
     let n = write_unread(&mut out, refusal);
-    blocks::write_answers(&out, n);
+    Stream::open().write_answers(&out, n);
     let mut words = [0u8; WORDS_ROOM];
     let m = say_unread(&mut words, text, refusal);
     blocks::write_words(&words, m);
@@ -41,7 +42,7 @@ fn print_unread(text: &[u8], refusal: reader::Refusal) {
 fn print_refused(table: Table, refusal: Refusal) {
     let mut out = [0u8; LINES_ROOM];
     let n = write_refusal(&mut out, refusal);
-    blocks::write_answers(&out, n);
+    Stream::open().write_answers(&out, n);
     let mut words = [0u8; WORDS_ROOM];
     let m = say_refused(&mut words, table, refusal);
     blocks::write_words(&words, m);

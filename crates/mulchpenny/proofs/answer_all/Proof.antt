@@ -1,48 +1,59 @@
--- `mulchpenny::answer_all`: the buffers keep their lengths, the carry fits, and the desk's plan stays sound.
-use borrow.Author.Needs.{needs}
-use native.Mathlib.Omega.{arith}
-use mathlib.Core.Path.{_≡_, refl}
-use Prim.Native.Nat.{_≤_}
-use lib.ListN.{length, length-take}
+-- `mulchpenny::answer_all`: the buffers keep their lengths, the carry fits, and the desk's plan stays sound; a stream has fewer blocks
+-- left with each that comes.
+use Rattle.common.specs.Words.{needs, arith, _≡_, refl, sym, _∙_, _≤_, length, length-take}
 use Rattle.console.specs.Kept.{Kept, kept-new}
 use Rattle.lines.specs.Lines.{kept}
 use Rattle.mulchpenny.proofs.answer_all.Statement.{statement}
 use Rattle.mulchpenny.proofs.answer_all.Tie as tie
 
 abbrev Inv-loop : tie.InvT-loop
-Inv-loop memory₀ held₀ piece₀ out₀ d₀ u₀ turns₀ memory held piece out d u turns =
+Inv-loop memory₀ held₀ piece₀ out₀ d₀ u₀ s₀ memory held piece out d u s =
     (u ≤ kept) × (length memory ≡ length memory₀) × (length held ≡ length held₀) × (length piece ≡ length piece₀) × (length out ≡ length out₀) × Kept d
 
 abbrev μ-loop : tie.MeasureT-loop
-μ-loop memory₀ held₀ piece₀ out₀ d₀ u₀ turns₀ memory held piece out d u turns = turns
+μ-loop memory₀ held₀ piece₀ out₀ d₀ u₀ s₀ memory held piece out d u s = s .left
 
 loop-holds : tie.Need-loop-holds Inv-loop μ-loop
-loop-holds c = (omega arith, refl, refl, refl, refl, rw (c .new .ensures) kept-new)
+loop-holds c = (omega arith, refl, refl, refl, refl, rw (c .before .new .ensures) kept-new)
+
+-- no byte came
+returns : tie.Need-returns Inv-loop μ-loop
+returns c =
+    let t = c .before .before .before .before .before .before .before .before in
+    t .before .before .before .before .read-block .ensures .ended (t .if2 .taken)
 
 slice-aggregate-answer-block : tie.Need-slice-aggregate-answer-block Inv-loop μ-loop
 slice-aggregate-answer-block c = simp length-take (omega arith)
 
-same-length-5 : tie.Need-same-length-5 Inv-loop μ-loop
-same-length-5 c = let m = c .before .before .before .before .before .before .before .memory2 .given in let i = c .before .before .before .before .before .before .before .before .before .before .before .before .before .before .before .before .before .before .before .loop .inv in search needs
+-- ## A block was answered
 
-same-length-6 : tie.Need-same-length-6 Inv-loop μ-loop
-same-length-6 c = let m = c .before .before .before .before .before .held .given in let i = c .before .before .before .before .before .before .before .before .before .before .before .before .before .before .before .before .before .before .before .loop .inv in search needs
+module _ (b : tie.After-answer-block Inv-loop μ-loop) where
+  abbrev came : tie.Else2 Inv-loop μ-loop
+  came = b .before .before .before .before .before
 
-same-length-7 : tie.Need-same-length-7 Inv-loop μ-loop
-same-length-7 c = let m = c .before .before .before .before .before .before .before .before .before .before .before .before .before .before .before .piece .given in let i = c .before .before .before .before .before .before .before .before .before .before .before .before .before .before .before .before .before .before .before .loop .inv in search needs
+  abbrev read : tie.After-read-block Inv-loop μ-loop
+  read = came .before .before .before .before
 
-same-length-8 : tie.Need-same-length-8 Inv-loop μ-loop
-same-length-8 c = let m = c .before .before .before .out2 .given in let i = c .before .before .before .before .before .before .before .before .before .before .before .before .before .before .before .before .before .before .before .loop .inv in search needs
+loop-less : tie.Need-loop-less Inv-loop μ-loop
+loop-less c =
+    let b = c .before .before .before .before .before .before .before .before in
+    omega (arith, b .answer-block .ensures .1 .2, read b .read-block .ensures .fewer (omega (arith, came b .if2 .left)))
 
 loop-again : tie.Need-loop-again Inv-loop μ-loop
 loop-again c =
-    let m = c .before .before .before .before .before .before .before .before .memory2 .given in
-    let h = c .before .before .before .before .before .before .held .given in
-    let o = c .before .before .before .before .out2 .given in
-    let p = c .before .before .before .before .before .before .before .before .before .before .before .before .before .before .before .before .piece .given in
-    let i = c .before .before .before .before .before .before .before .before .before .before .before .before .before .before .before .before .before .before .before .before .loop .inv in
-    let b = c .before .before .before .before .before .before .before .before .before .answer-block .ensures .1 in
-    (b .0, search needs, search needs, search needs, search needs, b .1)
+    let b = c .before .before .before .before .before .before .before .before in
+    let i = read b .before .before .before .before .loop .inv in (
+      b .answer-block .ensures .1 .0,
+      let m = c .before .before .before .before .before .before .before .memory2 .given in search needs,
+      let m = c .before .before .before .before .before .held .given in search needs,
+      let m = came b .before .before .before .piece .given in search needs,
+      let m = c .before .before .before .out2 .given in search needs,
+      b .answer-block .ensures .1 .1,
+    )
+
+-- the stream is closed
+returns-2 : tie.Need-returns-2 Inv-loop μ-loop
+returns-2 c = sym (c .before .goes-on .ensures) ∙ c .if1 .left
 
 pub answer-all-spec : {M : Type 1} → statement M
 answer-all-spec =
@@ -51,27 +62,23 @@ answer-all-spec =
     Inv-loop
     μ-loop
     (λ c κs. search needs)
+    (λ c κs. search needs)
     loop-holds
     (λ c κs. search needs)
     (λ c κs. search needs)
+    (λ c κs. search needs)
     (λ c. search needs)
     (λ c. search needs)
     (λ c. search needs)
     (λ c. search needs)
-    (λ c. search needs)
+    returns
     (λ c. search needs)
     slice-aggregate-answer-block
     (λ c κs. search needs)
-    same-length-5
-    same-length-6
-    same-length-7
-    same-length-8
-    (λ c. search needs)
-    (λ c. search needs)
-    (λ c. search needs)
+    loop-less
     loop-again
     (λ c. search needs)
     (λ c. search needs)
     (λ c. search needs)
     (λ c. search needs)
-    (λ c. search needs))
+    returns-2)

@@ -1,6 +1,6 @@
 -- `mulchpenny::answer_block`: each call of `feed` goes on where the block was left (`comes-on`) and uses at least one byte
 -- (`next-moves`), so the loop ends, and it ends at the block's end unless a write failed.
-use Rattle.common.specs.Words.{needs, arith, _≡_, refl, _-_, _<_, _≤_, length, take}
+use Rattle.common.specs.Words.{needs, arith, true≢false, _≡_, refl, sym, _∙_, _-_, _<_, _≤_, length, take}
 use Rattle.console.specs.Kept.{Kept}
 use Rattle.feed.specs.Feed.{enough}
 use Rattle.feed.specs.Outcome.{worldOf}
@@ -11,18 +11,19 @@ use Rattle.mulchpenny.proofs.answer_block.Statement.{statement}
 use Rattle.mulchpenny.proofs.answer_block.Tie as tie
 
 abbrev Inv-loop : tie.InvT-loop
-Inv-loop memory₀ held₀ used piece out₀ d₀ u₀ at₀ memory held out d u at =
+Inv-loop memory₀ held₀ used piece out₀ d₀ u₀ at₀ s₀ memory held out d u at s =
     (u ≤ kept) × (at ≤ length piece) × (length held ≡ length held₀) × (length out ≡ length out₀) × (length memory ≡ length memory₀) × Kept d
+    × (s .left ≡ s₀ .left)
     × Comes (worldOf d₀ memory₀) (take used held₀) (take at piece) (worldOf d memory) (take u held)
 
 abbrev μ-loop : tie.MeasureT-loop
-μ-loop memory₀ held₀ used piece out₀ d₀ u₀ at₀ memory held out d u at = length piece - at
+μ-loop memory₀ held₀ used piece out₀ d₀ u₀ at₀ s₀ memory held out d u at s = length piece - at
 
 loop-holds : tie.Need-loop-holds Inv-loop μ-loop
 loop-holds c =
     let k = c .before .before .before .before in
     let a = k .args in
-    (k .pre .0, omega arith, refl, refl, refl, k .pre .3, comes-none (worldOf (a .desk) (a .memory .now)) (take (a .used) (a .held .now)) (a .piece .now))
+    (k .pre .0, omega arith, refl, refl, refl, k .pre .3, refl, comes-none (worldOf (a .desk) (a .memory .now)) (take (a .used) (a .held .now)) (a .piece .now))
 
 -- ## A call of feed
 
@@ -46,30 +47,50 @@ module _ (f : tie.After-feed Inv-loop μ-loop) where
       (take (f .feed .result .used) (f .feed .last .1 .1 .0))
   comes =
       let l = turn .before .loop in
-      comes-on (worldOf (l .d) (l .memory)) (l .held) (l .u) (start .args .piece .now) (l .at) (l .out) (l .inv .1) (l .inv .6)
+      comes-on (worldOf (l .d) (l .memory)) (l .held) (l .u) (start .args .piece .now) (l .at) (l .out) (l .inv .1) (l .inv .7)
       (f .feed .ensures .0)
+
+-- the call's answers were written, or could not be
+abbrev fed : tie.After-write-answers Inv-loop μ-loop → tie.After-feed Inv-loop μ-loop
+fed w = w .before .before .before .before .before .before .before .before .before
 
 -- a write failed
 returns : tie.Need-returns Inv-loop μ-loop
 returns c =
-    let f = c .before .before .before .before .before .before .before .before .before .before in
-    (record { inside = omega (arith, f .feed .ensures .0 .next-fits); comes = comes f; whole = λ e. cc }, (f .feed .ensures .0 .used-fits, f .feed .ensures .1))
+    let w = c .before .before in
+    let o = fed w .feed .ensures in (
+      record {
+        inside = omega (arith, o .0 .next-fits);
+        comes = comes (fed w);
+        whole = λ e. absurd (true≢false (sym (rw (c .before .goes-on .ensures, e) at (c .if1 .taken))));
+      },
+      (o .0 .used-fits, o .1, w .write-answers .ensures .same-left ∙ turn (fed w) .before .loop .inv .6),
+    )
 
 loop-less : tie.Need-loop-less Inv-loop μ-loop
-loop-less c =
-    let f = c .before .before .before .before .before .before .before .before .before .before in
-    omega (arith, moves f, turn f .loop-test .taken)
+loop-less c = let f = fed (c .before .before) in omega (arith, moves f, turn f .loop-test .taken)
 
 loop-again : tie.Need-loop-again Inv-loop μ-loop
 loop-again c =
-    let f = c .before .before .before .before .before .before .before .before .before .before in
-    (f .feed .ensures .0 .used-fits, omega (arith, f .feed .ensures .0 .next-fits), search needs, search needs, search needs, f .feed .ensures .1, comes f)
+    let w = c .before .before in
+    let o = fed w .feed .ensures in
+    let i = turn (fed w) .before .loop .inv in
+    let b = w .before .before .before .before in (
+      o .0 .used-fits,
+      omega (arith, o .0 .next-fits),
+      let m = b .before .before .held .given in search needs,
+      let m = b .out .given in search needs,
+      let m = b .before .before .before .before .memory .given in search needs,
+      o .1,
+      w .write-answers .ensures .same-left ∙ i .6,
+      comes (fed w),
+    )
 
 -- the block is used up
 returns-2 : tie.Need-returns-2 Inv-loop μ-loop
 returns-2 c =
     let i = c .before .loop .inv in
-    (record { inside = i .1; comes = i .6; whole = λ e. omega (arith, i .1, c .loop-test .left) }, (i .0, i .5))
+    (record { inside = i .1; comes = i .7; whole = λ e. omega (arith, i .1, c .loop-test .left) }, (i .0, i .5, i .6))
 
 pub answer-block-spec : {M : Type 1} → statement M
 answer-block-spec =
@@ -78,6 +99,7 @@ answer-block-spec =
     Inv-loop
     μ-loop
     loop-holds
+    (λ c κs. search needs)
     (λ c κs. search needs)
     (λ c κs. search needs)
     (λ c. search needs)

@@ -12,13 +12,15 @@ unfolding refusalBytes
 seven r = numbers-length 1 1 1 0x7f (numberOf (r .rule)) (r .row)
 
 write-answers-requires : tie.Need-write-answers-requires
-write-answers-requires c κs = let w = c .before .before in omega (arith, w .write-refusal .ensures .0, seven (w .before .before .args .refusal))
+write-answers-requires c κs =
+    let w = c .before .before .before in omega (arith, w .write-refusal .ensures .0, seven (w .before .before .args .refusal))
 
 pub print-refused-spec : {M : Type 1} → statement M
 print-refused-spec =
     tie.close
     (tie.spec
     (λ c. search needs)
+    (λ c κs. search needs)
     (λ c κs. search needs)
     (λ c. search needs)
     write-answers-requires
