@@ -13,24 +13,11 @@ use Rattle.history.specs.Lists.{goOn-append}
 use Rattle.logs.specs.Types.{Tick, Plan, Started, Received, Frame, Desk}
 use Rattle.logs.specs.Said.{frameIn, payloadOf}
 use Rattle.logs.specs.Log.{Entry, Log, logOf, opened, callOf, callsIn, Stores, StoredIn, linesTo, Ends, EndedIn}
+use Rattle.logs.specs.Session.{lineFor, carried, Runs}
 use Rattle.logs.specs.Frames.{sending, receiving, line-turn}
 use Rattle.logs.specs.Turns.{Acts, sends, receives, idles, running-acts, Quiet, Waits, starts, waits, waiting}
-use Rattle.logs.specs.Entries.{stored-append, ended-append, lines-append, quiet-stores, quiet-ends, quiet-lines, lineFor, sent-stores}
-use Rattle.logs.specs.Entries.{sent-ends, sent-lines, received-stores, received-empty, received-lines}
-
--- the desk's own part of a world, as a history has it
-abbrev pub carried : feed.World → World
-carried w = record { state = w .desk .state; memory = w .memory }
-
--- plan p was started on memory m, the calls H were made since then, and the log shows what they came to
-pub record Runs (p : Plan) (m : List ℕ) (H : History) (w : feed.World) (log : Log) : Type 0 where
-  pub on : w .desk .running ≡ true
-  pub plan-is : w .desk .plan ≡ p
-  pub planned-is : p ≡ planned (w .desk) .plan
-  pub world-is : carried w ≡ world p m H
-  pub stored : (q n : ℕ) (payload : List ℕ) → StoredIn log q n payload ↔ SentIn p m H q n payload
-  pub told : (q k : ℕ) → linesTo p q k log ≡ map lineFor (readBy p m filler H q k)
-  pub ended : (q k : ℕ) → EndedIn p q k log → ReadToEnd p m H q k
+use Rattle.logs.specs.Entries.{stored-append, ended-append, lines-append, quiet-stores, quiet-ends, quiet-lines, sent-stores, sent-ends}
+use Rattle.logs.specs.Entries.{sent-lines, received-stores, received-empty, received-lines}
 
 -- ## One line more
 

@@ -17,22 +17,8 @@ use Rattle.logs.specs.Frames.{turnOf, line-turn}
 use Rattle.logs.specs.Turns.{Acts, sends, receives, idles, running-acts}
 use Rattle.logs.specs.Log.{Log, logOf, written, opened, sessionLog, deskAfter, callsIn, AcceptedIn, SameTable, StoredIn, linesTo, EndedIn}
 use Rattle.logs.specs.Log.{RightLine, asStored, nothingStored, RightLines, Among}
-use Rattle.logs.specs.Entries.{lineFor}
-use Rattle.logs.specs.Follows.{Runs, run-lines, Comes, never, started, session-comes}
-
--- "one accepted start and no start after it": the lines since the accepted 03 are the calls of a history
-pub record Started (m : List ℕ) (lines : List (List ℕ)) : Type 0 where
-  pub before : List (List ℕ)
-  pub go : List ℕ
-  pub since : List (List ℕ)
-  pub whole : lines ≡ before ++ (go ∷ since)
-  pub asked : frameIn go ≡ Frame.Go
-  pub made : Made (deskAfter m lines .plan)
-  pub begins : Begins (deskAfter m lines .plan) m
-  pub runs : Runs (deskAfter m lines .plan) m (history (callsIn since)) (feed.worldAfter (opened m) lines) (sessionLog m lines)
-
-abbrev pub calls : {m : List ℕ} {lines : List (List ℕ)} → Started m lines → History
-calls s = history (callsIn (s .since))
+use Rattle.logs.specs.Session.{lineFor, Runs, Started, calls}
+use Rattle.logs.specs.Follows.{run-lines, Comes, never, started, session-comes}
 
 pub has-started : (m : List ℕ) (lines : List (List ℕ)) → deskAfter m lines .running ≡ true → Started m lines
 has-started m lines on = go (session-comes m lines)

@@ -1,10 +1,11 @@
 -- WHAT A SAVED LOG TELLS. A session of the program is any list of lines, from a new desk and memory with any bytes in it; its log is each line
 -- with its answer. These are demand 3's sentences, said of the lines themselves: nothing stands in them but the log's digits and the plan
--- of the table that was accepted. All definitions stand in Log and Said.
+-- of the table that was accepted. All definitions stand in Log, Said and Session.
 --
--- How to read it. `AcceptedIn log`: an 03 was answered 81. `linesTo p q k log`: the lines 85 and 86 of queue q that
--- job k of its receiver got, in the order of the log. `StoredIn log q n payload`: a line 04 on queue q with this payload was answered 84 with
--- number n. `EndedIn p q k log`: a line 05 of job k was answered 87. `windowNumbers`: the numbers of a job's window, from its first on.
+-- How to read it. `AcceptedIn log`: an 03 was answered 81. `linesTo p q k log`: the lines 85 and 86 of queue q that job k of its receiver
+-- got, in the order of the log. `StoredIn log q n payload`: a line 04 on queue q with this payload was answered 84 with number n.
+-- `EndedIn p q k log`: a line 05 of job k was answered 87. `windowNumbers`: the numbers of a job's window, from its first on. `RightLines`:
+-- one by one, the line is the one that the number ought to get, by what was stored.
 use Rattle.common.specs.Words.{ℕ, _≤_, _<_, List, [], _∷_, _++_, _↔_, _≡_, refl, sym, ap, subst, _∙_, drop}
 use Rattle.model.specs.Model.{first, last}
 use Rattle.plan.specs.Plan.{queueAt}
@@ -26,9 +27,8 @@ use Rattle.logs.specs.Types.{Plan}
 use Rattle.logs.specs.Log.{Entry, Log, written, opened, sessionLog, deskAfter, callsIn, AcceptedIn, Stores, StoredIn, linesTo, SameTable}
 use Rattle.logs.specs.Log.{EndedIn, RightLines, Among}
 use Rattle.logs.specs.Verbatim.{message-verbatim}
-use Rattle.logs.specs.Follows.{Runs}
-use Rattle.logs.specs.Started.{Started, calls, has-started, accepted-runs, log-written, runs-later, right-lines, among-lines, end-queue}
-use Rattle.logs.specs.Started.{same-plan, same-runs}
+use Rattle.logs.specs.Session.{Runs, Started, calls}
+use Rattle.logs.specs.Started.{has-started, accepted-runs, log-written, runs-later, right-lines, among-lines, end-queue, same-plan, same-runs}
 
 -- What the program writes of a text, in whatever blocks the text came and with or without a line feed at its end, is the log's answers.
 pub output-is-the-log : (m text : List ℕ) (f : Feeding) → Answered (opened m) [] text f →
