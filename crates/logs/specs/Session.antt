@@ -23,8 +23,8 @@ lineFor r = lineOf (readingBytes (r .answer) (r .shown))
 -- ## A run
 
 -- the desk's own part of a world, as a history has it
-abbrev pub carried : feed.World → World
-carried w = record { state = w .desk .state; memory = w .memory }
+abbrev pub stateAndMemory : feed.World → World
+stateAndMemory w = record { state = w .desk .state; memory = w .memory }
 
 -- plan p was started on memory m, the calls H were made since then, and the log shows what they came to
 pub record Runs (p : Plan) (m : List ℕ) (H : History) (w : feed.World) (log : Log) : Type 0 where
@@ -33,7 +33,7 @@ pub record Runs (p : Plan) (m : List ℕ) (H : History) (w : feed.World) (log : 
   pub plan-is : w .desk .plan ≡ p
   pub planned-is : p ≡ planned (w .desk) .plan
   -- state and memory are those that the calls leave
-  pub world-is : carried w ≡ world p m H
+  pub world-is : stateAndMemory w ≡ world p m H
   -- an 84 in the log is an accepted send, and the other way round
   pub stored : (q n : ℕ) (payload : List ℕ) → StoredIn log q n payload ↔ SentIn p m H q n payload
   -- a job's lines 85 and 86 are the lines of its readings
@@ -44,7 +44,7 @@ pub record Runs (p : Plan) (m : List ℕ) (H : History) (w : feed.World) (log : 
 -- ## A session
 
 -- "one accepted start and no start after it": the lines since the accepted 03 are the calls of a history
-pub record Started (m : List ℕ) (lines : List (List ℕ)) : Type 0 where
+pub record AsHistory (m : List ℕ) (lines : List (List ℕ)) : Type 0 where
   pub before : List (List ℕ)
   pub go : List ℕ
   pub since : List (List ℕ)
@@ -54,5 +54,5 @@ pub record Started (m : List ℕ) (lines : List (List ℕ)) : Type 0 where
   pub begins : Begins (deskAfter m lines .plan) m
   pub runs : Runs (deskAfter m lines .plan) m (history (callsIn since)) (feed.worldAfter (opened m) lines) (sessionLog m lines)
 
-abbrev pub calls : {m : List ℕ} {lines : List (List ℕ)} → Started m lines → History
+abbrev pub calls : {m : List ℕ} {lines : List (List ℕ)} → AsHistory m lines → History
 calls s = history (callsIn (s .since))
