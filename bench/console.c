@@ -1,8 +1,12 @@
-/* The console of document 01 in plain C: the yardstick for the time of other consoles.
+/* The console of document 01 in C, written for speed alone: the yardstick for the time of
+ * other consoles.
  *
- * State is changed in place, nothing is allocated, input and output go through blocks of
- * 64 KiB, and the answers of a block are out before the next read. Numbers follow equations
- * 1 and 2 of the source document; equation 1 is 0 before a sender's first deadline.
+ * State is changed in place, nothing is allocated, a line is used where it was read, input and
+ * output go through blocks of 64 KiB, and the answers of a block are out before the next read.
+ * Two digits become a byte, and a byte two digits, by one look into a table; a digit that is
+ * none marks the whole line, which is tested once. Division by a period is a multiplication.
+ * The window of a receiver's job is reckoned once, and a gap's sender is looked up in a list
+ * that planning leaves. Numbers follow equations 1 and 2 of the source document.
  *
  * Built by: gcc -O3 console.c -o console
  */
@@ -20,26 +24,47 @@ enum {
     MOST_MESSAGES = 4096,
     MOST_SLOTS = 1024,
     PAYLOAD = 24,
+    SEND = 8 + PAYLOAD,
+    RECEIVE = 7,
     MOST_DIGITS = 100,
     BLOCK = 65536,
-    LONGEST_ANSWER = 2 * (1 + 6 + PAYLOAD) + 1,
+    LONGEST_ANSWER = 64,
     NO_FRAME = 0xf0
 };
 
 #define LAST_TICK UINT64_C(1000000000000)
 
+/* Division of x by d as a multiplication by 2^63 / d, rounded up, which is right where x * d is
+ * below 2^63: ticks have 40 bits and periods 16, numbers have 44 bits and sizes 13. */
+typedef struct {
+    uint64_t magic;
+} Divisor;
+
 typedef struct {
     uint64_t period, deadline;
+    Divisor by;
 } Task;
+
+/* A sender as its queue counts it; `ahead` is its period less its deadline. */
+typedef struct {
+    Divisor by;
+    uint64_t ahead;
+    unsigned row;
+} Sender;
 
 typedef struct {
     unsigned receiver, mask;
-    /* Filled by planning: the senders' rows in rising order. */
-    unsigned senders, sender[MOST_TASKS];
-    uint64_t hyperperiod, size, place;
-    /* The running state of the queue: the job after the last one that sent, by task, and
-     * the number after the last one read. */
+    /* Filled by planning: the senders in rising order of rows, the messages of a hyperperiod,
+     * and the row of each of them, number n at (n - 1) mod messages. */
+    unsigned senders;
+    Sender sender[MOST_TASKS];
+    uint64_t messages, size, place;
+    Divisor by_messages, by_size;
+    unsigned char row[MOST_MESSAGES];
+    /* The running state: the job after the last one that sent, by task; the number after the
+     * last one read; and the receiver's job whose window is known, with its ends. */
     uint64_t sent[MOST_TASKS], reading;
+    uint64_t job, first, last;
 } Queue;
 
 /* Number 0 means never written. */
@@ -55,67 +80,52 @@ static bool running;
 static uint64_t now;
 static Slot slot[MOST_SLOTS];
 
-static char out[BLOCK];
+static unsigned char out[BLOCK];
 static size_t out_used;
 
 /* ---- numbers ---- */
 
-/* Jobs of a task with their deadline at tick t or before. */
-static inline uint64_t count(const Task *a, uint64_t t)
+static Divisor divisor(uint64_t d)
 {
-    return t < a->deadline ? 0 : (t - a->deadline) / a->period + 1;
+    return (Divisor){ (UINT64_C(1) << 63) / d + 1 };
+}
+
+static inline uint64_t quotient(uint64_t x, Divisor by)
+{
+    return (uint64_t)((unsigned __int128)x * by.magic >> 63);
+}
+
+/* Jobs of a sender with their deadline at tick t or before: to add the period less the
+ * deadline, and not 1 after a subtraction, is right before the first deadline too. */
+static inline uint64_t count(const Sender *s, uint64_t t)
+{
+    return quotient(t + s->ahead, s->by);
 }
 
 /* Equation 1. */
-static uint64_t up_to(const Queue *q, uint64_t t)
+static inline uint64_t up_to(const Queue *q, uint64_t t)
 {
     uint64_t sum = 0;
     for (unsigned s = 0; s < q->senders; s++)
-        sum += count(&task[q->sender[s]], t);
+        sum += count(&q->sender[s], t);
     return sum;
 }
 
-/* Equation 2: all deadlines up to this job's, less the equal ones of later rows. */
-static uint64_t number_of(const Queue *q, unsigned row, uint64_t deadline)
+/* Equation 2: deadlines up to this job's, for later rows only those before it. */
+static inline uint64_t number_of(const Queue *q, unsigned row, uint64_t deadline)
 {
     uint64_t sum = 0;
-    for (unsigned s = 0; s < q->senders; s++) {
-        const Task *a = &task[q->sender[s]];
-        if (deadline < a->deadline)
-            continue;
-        uint64_t jobs = (deadline - a->deadline) / a->period;
-        bool equal = jobs * a->period == deadline - a->deadline;
-        sum += jobs + 1 - (equal && q->sender[s] > row);
-    }
+    for (unsigned s = 0; s < q->senders; s++)
+        sum += count(&q->sender[s], deadline - (q->sender[s].row > row));
     return sum;
-}
-
-/* The sender of a number whose deadline lies in (low, high]: the first tick with that many
- * deadlines, then the rows that have a deadline there, in order. */
-static unsigned sender_of(const Queue *q, uint64_t number, uint64_t low, uint64_t high)
-{
-    while (high - low > 1) {
-        uint64_t middle = low + (high - low) / 2;
-        if (up_to(q, middle) >= number)
-            high = middle;
-        else
-            low = middle;
-    }
-    uint64_t before = up_to(q, high - 1);
-    for (unsigned s = 0; s < q->senders; s++) {
-        const Task *a = &task[q->sender[s]];
-        if (high >= a->deadline && (high - a->deadline) % a->period == 0 && ++before == number)
-            return q->sender[s];
-    }
-    return 0;
 }
 
 /* ---- planning ---- */
 
-static uint64_t common_divisor(uint64_t a, uint64_t b)
+static uint32_t common_divisor(uint32_t a, uint32_t b)
 {
     while (b != 0) {
-        uint64_t rest = a % b;
+        uint32_t rest = a % b;
         a = b;
         b = rest;
     }
@@ -126,37 +136,58 @@ static uint64_t common_divisor(uint64_t a, uint64_t b)
 static uint64_t hyperperiod_of(const Queue *q)
 {
     uint64_t multiple = task[q->receiver].period;
-    for (unsigned s = 0; s < q->senders; s++) {
-        uint64_t period = task[q->sender[s]].period;
-        multiple = multiple / common_divisor(multiple, period) * period;
+    for (unsigned left = q->mask; left != 0; left &= left - 1) {
+        uint64_t period = task[__builtin_ctz(left)].period;
+        multiple *= period / common_divisor((uint32_t)multiple, (uint32_t)period);
         if (multiple > MOST_HYPERPERIOD)
             return 0;
     }
     return multiple;
 }
 
-/* The most that a message's number is ahead of the messages outdated at its job's release.
- * The second hyperperiod stands for all: in it no release comes before the receiver's first
- * deadline, and the later ones are the same but for the shift. */
-static uint64_t least_slots(const Queue *q)
+static void set_senders(Queue *q)
+{
+    q->senders = 0;
+    for (unsigned left = q->mask; left != 0; left &= left - 1) {
+        unsigned row = (unsigned)__builtin_ctz(left);
+        const Task *a = &task[row];
+        q->sender[q->senders++] = (Sender){ a->by, a->period - a->deadline, row };
+    }
+}
+
+/* The most that a message's number is ahead of the messages outdated at its job's release, or
+ * 0 if it is over `most`. The second hyperperiod stands for all: in it no release comes before
+ * the receiver's first deadline, and the later ones are the same but for the shift. Successive
+ * releases often look at the same job of the receiver, so what it outdates is kept. */
+static uint64_t least_slots(Queue *q, uint64_t hyperperiod, uint64_t most)
 {
     const Task *r = &task[q->receiver];
-    uint64_t most = 1;
+    uint64_t least = 0;
     for (unsigned s = 0; s < q->senders; s++) {
-        const Task *a = &task[q->sender[s]];
-        for (uint64_t t = q->hyperperiod; t < 2 * q->hyperperiod; t += a->period) {
-            uint64_t number = number_of(q, q->sender[s], t + a->deadline);
-            uint64_t outdated = up_to(q, (t - r->deadline) / r->period * r->period);
-            if (number - outdated > most)
-                most = number - outdated;
+        const Task *a = &task[q->sender[s].row];
+        uint64_t ended = UINT64_MAX, outdated = 0;
+        for (uint64_t t = hyperperiod; t < 2 * hyperperiod; t += a->period) {
+            uint64_t number = number_of(q, q->sender[s].row, t + a->deadline);
+            uint64_t job = quotient(t - r->deadline, r->by);
+            if (job != ended) {
+                ended = job;
+                outdated = up_to(q, job * r->period);
+            }
+            q->row[number - q->messages - 1] = (unsigned char)q->sender[s].row;
+            if (number - outdated > least) {
+                least = number - outdated;
+                if (least > most)
+                    return 0;
+            }
         }
     }
-    return most;
+    return least;
 }
 
 /* 0 if the table is taken, else the refusal and the row it names. */
 static unsigned plan(unsigned *row)
 {
+    uint64_t hyperperiod[MOST_QUEUES];
     *row = 0;
     if (tasks == 0 || queues == 0)
         return 1;
@@ -168,173 +199,80 @@ static unsigned plan(unsigned *row)
             return 2;
     }
     for (unsigned i = 0; i < queues; i++) {
-        Queue *q = &queue[i];
         *row = i;
-        if (q->receiver >= tasks || q->mask == 0 || q->mask >> tasks != 0)
+        if (queue[i].receiver >= tasks || queue[i].mask == 0 || queue[i].mask >> tasks != 0)
             return 3;
-        q->senders = 0;
-        for (unsigned bit = 0; bit < tasks; bit++)
-            if (q->mask >> bit & 1)
-                q->sender[q->senders++] = bit;
     }
     for (unsigned i = 0; i < queues; i++) {
         Queue *q = &queue[i];
-        uint64_t messages = 0;
         *row = i;
-        q->hyperperiod = hyperperiod_of(q);
-        if (q->hyperperiod == 0)
+        hyperperiod[i] = hyperperiod_of(q);
+        if (hyperperiod[i] == 0)
             return 4;
-        for (unsigned s = 0; s < q->senders; s++)
-            messages += q->hyperperiod / task[q->sender[s]].period;
-        if (messages > MOST_MESSAGES)
+        q->messages = 0;
+        for (unsigned left = q->mask; left != 0; left &= left - 1)
+            q->messages += (uint32_t)hyperperiod[i] / (uint32_t)task[__builtin_ctz(left)].period;
+        if (q->messages > MOST_MESSAGES)
             return 5;
     }
     *row = 0;
+    for (unsigned i = 0; i < tasks; i++)
+        task[i].by = divisor(task[i].period);
     uint64_t place = 0;
     for (unsigned i = 0; i < queues; i++) {
-        queue[i].place = place;
-        queue[i].size = least_slots(&queue[i]);
-        place += queue[i].size;
-        if (place > MOST_SLOTS)
+        Queue *q = &queue[i];
+        set_senders(q);
+        q->size = least_slots(q, hyperperiod[i], MOST_SLOTS - place);
+        if (q->size == 0)
             return 6;
+        q->place = place;
+        place += q->size;
+    }
+    for (unsigned i = 0; i < queues; i++) {
+        queue[i].by_size = divisor(queue[i].size);
+        queue[i].by_messages = divisor(queue[i].messages);
+        queue[i].first = 1;
     }
     return 0;
 }
 
-/* ---- answers ---- */
+/* ---- digits ---- */
 
-static const char DIGIT[] = "0123456789abcdef";
+/* Both are filled by `fill`: the byte of two digits, by their two characters as they lie in
+ * memory, or BAD if one of them is no lower-case digit; and the two digits of a byte. */
+enum { BAD = 0x100 };
+static uint16_t byte_of[65536];
+static unsigned char pair_of[256][2];
 
-static inline void put(unsigned byte)
+static inline uint16_t two(const unsigned char *at)
 {
-    out[out_used] = DIGIT[byte >> 4];
-    out[out_used + 1] = DIGIT[byte & 15];
-    out_used += 2;
+    uint16_t characters;
+    memcpy(&characters, at, 2);
+    return characters;
 }
 
-static inline void put_number(uint64_t value, int bytes)
+static void fill(void)
 {
-    for (int shift = 8 * (bytes - 1); shift >= 0; shift -= 8)
-        put(value >> shift & 255);
-}
-
-static void put_refusal(unsigned rule, unsigned row)
-{
-    put(0x7f);
-    put(rule);
-    put(row);
-}
-
-/* ---- calls ---- */
-
-static void start(void)
-{
-    unsigned row;
-    unsigned refusal = plan(&row);
-    if (refusal != 0) {
-        tasks = queues = 0;
-        put_refusal(refusal, row);
-        return;
+    static const char digit[] = "0123456789abcdef";
+    for (unsigned i = 0; i < 65536; i++)
+        byte_of[i] = BAD;
+    for (unsigned i = 0; i < 256; i++) {
+        pair_of[i][0] = (unsigned char)digit[i >> 4];
+        pair_of[i][1] = (unsigned char)digit[i & 15];
+        byte_of[two(pair_of[i])] = (uint16_t)i;
     }
-    running = true;
-    put(0x81);
-    for (unsigned i = 0; i < queues; i++)
-        put_number(queue[i].size, 2);
 }
 
-/* 0 if the message is taken, else the refusal. */
-static unsigned send_message(const unsigned char *frame, unsigned length, uint64_t tick)
+/* The bytes of a line of 2 * n characters in frame; false if one is no digit. */
+static inline bool decode(const unsigned char *line, size_t n, unsigned char *frame)
 {
-    if (length != 8 + PAYLOAD)
-        return 14;
-    unsigned row = frame[2];
-    if (frame[1] >= queues || row >= tasks || !(queue[frame[1]].mask >> row & 1))
-        return 9;
-    Queue *q = &queue[frame[1]];
-    uint64_t job = tick / task[row].period;
-    uint64_t deadline = job * task[row].period + task[row].deadline;
-    if (tick > LAST_TICK || deadline > LAST_TICK)
-        return 11;
-    if (tick < now)
-        return 10;
-    if (tick >= deadline)
-        return 12;
-    if (q->sent[row] > job)
-        return 13;
-    uint64_t number = number_of(q, row, deadline);
-    uint64_t place = number % q->size;
-    Slot *target = &slot[q->place + place];
-    target->number = number;
-    memcpy(target->payload, frame + 8, PAYLOAD);
-    q->sent[row] = job + 1;
-    now = tick;
-    put(0x84);
-    put_number(number, 6);
-    put_number(place, 2);
-    return 0;
-}
-
-static unsigned receive(unsigned place, uint64_t tick)
-{
-    if (place >= queues)
-        return 9;
-    Queue *q = &queue[place];
-    const Task *r = &task[q->receiver];
-    if (tick > LAST_TICK)
-        return 11;
-    if (tick < now)
-        return 10;
-    uint64_t job = tick / r->period;
-    uint64_t release = job * r->period;
-    if (tick >= release + r->deadline)
-        return 12;
-    now = tick;
-    uint64_t first = 1, last = 0;
-    if (job > 0) {
-        first = up_to(q, release - r->period) + 1;
-        last = up_to(q, release);
+    unsigned all = 0;
+    for (size_t i = 0; i < n; i++) {
+        unsigned byte = byte_of[two(line + 2 * i)];
+        all |= byte;
+        frame[i] = (unsigned char)byte;
     }
-    uint64_t number = q->reading > first ? q->reading : first;
-    if (number > last) {
-        put(0x87);
-        return 0;
-    }
-    q->reading = number + 1;
-    const Slot *source = &slot[q->place + number % q->size];
-    if (source->number == number) {
-        put(0x85);
-        put_number(number, 6);
-        for (unsigned i = 0; i < PAYLOAD; i++)
-            put(source->payload[i]);
-    } else {
-        put(0x86);
-        put_number(number, 6);
-        put(sender_of(q, number, release - r->period, release));
-    }
-    return 0;
-}
-
-/* ---- lines ---- */
-
-/* The value of a lower-case digit plus one; 0 for every other character. */
-static const unsigned char DIGIT_PLUS_ONE[256] = {
-    ['0'] = 1, ['1'] = 2, ['2'] = 3, ['3'] = 4, ['4'] = 5, ['5'] = 6, ['6'] = 7, ['7'] = 8,
-    ['8'] = 9, ['9'] = 10, ['a'] = 11, ['b'] = 12, ['c'] = 13, ['d'] = 14, ['e'] = 15, ['f'] = 16
-};
-
-/* The bytes of a line in frame, and how many; 0 if it is no line of whole bytes. */
-static unsigned decode(const char *line, size_t digits, unsigned char *frame)
-{
-    if (digits > MOST_DIGITS || digits % 2 != 0)
-        return 0;
-    for (size_t i = 0; i < digits; i += 2) {
-        unsigned high = DIGIT_PLUS_ONE[(unsigned char)line[i]];
-        unsigned low = DIGIT_PLUS_ONE[(unsigned char)line[i + 1]];
-        if (high == 0 || low == 0)
-            return 0;
-        frame[i / 2] = (unsigned char)((high - 1) << 4 | (low - 1));
-    }
-    return (unsigned)(digits / 2);
+    return all < BAD;
 }
 
 static inline uint64_t number_in(const unsigned char *bytes, int length)
@@ -343,6 +281,33 @@ static inline uint64_t number_in(const unsigned char *bytes, int length)
     for (int i = 0; i < length; i++)
         value = value << 8 | bytes[i];
     return value;
+}
+
+/* ---- answers ---- */
+
+static inline void put(unsigned char *to, unsigned byte)
+{
+    memcpy(to, pair_of[byte], 2);
+}
+
+static inline void put_number(unsigned char *to, uint64_t value, int bytes)
+{
+    for (int i = 0; i < bytes; i++)
+        put(to + 2 * i, value >> 8 * (bytes - 1 - i) & 255);
+}
+
+static inline void end_line(unsigned char *to, size_t digits)
+{
+    to[digits] = '\n';
+    out_used += digits + 1;
+}
+
+static void put_refusal(unsigned char *to, unsigned rule, unsigned row)
+{
+    put(to, 0x7f);
+    put(to + 2, rule);
+    put(to + 4, row);
+    end_line(to, 6);
 }
 
 static bool flush_out(void)
@@ -358,46 +323,234 @@ static bool flush_out(void)
     return true;
 }
 
-/* Takes the frame; the result is 0, or a refusal still to be answered. 01 and 02 answer
- * nothing, all others leave their answer in out. */
-static unsigned take(const unsigned char *frame, unsigned length)
+/* ---- calls: each writes its answer to `to`; a result is 0, or a refusal still to be written ---- */
+
+static void start(unsigned char *to)
 {
-    unsigned kind = length == 0 ? 0 : frame[0];
-    if (kind == 4 && length >= 8 && running)
-        return send_message(frame, length, number_in(frame + 3, 5));
-    if (kind == 5 && length == 7 && running)
-        return receive(frame[1], number_in(frame + 2, 5));
-    if (kind == 1 && length == 5 && !running && tasks < MOST_TASKS) {
+    unsigned row;
+    unsigned refusal = plan(&row);
+    if (refusal != 0) {
+        tasks = queues = 0;
+        put_refusal(to, refusal, row);
+        return;
+    }
+    running = true;
+    put(to, 0x81);
+    for (unsigned i = 0; i < queues; i++)
+        put_number(to + 2 + 4 * i, queue[i].size, 2);
+    end_line(to, 2 + 4 * queues);
+}
+
+/* A send whose frame is of the right length. */
+static unsigned send_message(unsigned char *to, const unsigned char *frame)
+{
+    uint64_t tick = number_in(frame + 3, 5);
+    unsigned row = frame[2];
+    if (frame[1] >= queues || row >= tasks || !(queue[frame[1]].mask >> row & 1))
+        return 9;
+    Queue *q = &queue[frame[1]];
+    uint64_t job = quotient(tick, task[row].by);
+    uint64_t deadline = job * task[row].period + task[row].deadline;
+    if (tick > LAST_TICK || deadline > LAST_TICK)
+        return 11;
+    if (tick < now)
+        return 10;
+    if (tick >= deadline)
+        return 12;
+    if (q->sent[row] > job)
+        return 13;
+    q->sent[row] = job + 1;
+    now = tick;
+    uint64_t number = number_of(q, row, deadline);
+    uint64_t place = number - quotient(number, q->by_size) * q->size;
+    Slot *target = &slot[q->place + place];
+    target->number = number;
+    memcpy(target->payload, frame + 8, PAYLOAD);
+    put(to, 0x84);
+    put_number(to + 2, number, 6);
+    put_number(to + 14, place, 2);
+    end_line(to, 18);
+    return 0;
+}
+
+static unsigned receive(unsigned char *to, const unsigned char *frame)
+{
+    uint64_t tick = number_in(frame + 2, 5);
+    if (frame[1] >= queues)
+        return 9;
+    Queue *q = &queue[frame[1]];
+    const Task *r = &task[q->receiver];
+    if (tick > LAST_TICK)
+        return 11;
+    if (tick < now)
+        return 10;
+    uint64_t job = quotient(tick, r->by);
+    uint64_t release = job * r->period;
+    if (tick >= release + r->deadline)
+        return 12;
+    now = tick;
+    if (job != q->job) {
+        /* Ticks do not fall, so this job comes after the known one. */
+        q->first = (job == q->job + 1 ? q->last : up_to(q, release - r->period)) + 1;
+        q->last = up_to(q, release);
+        q->job = job;
+    }
+    uint64_t number = q->reading > q->first ? q->reading : q->first;
+    if (number > q->last) {
+        put(to, 0x87);
+        end_line(to, 2);
+        return 0;
+    }
+    q->reading = number + 1;
+    const Slot *source = &slot[q->place + number - quotient(number, q->by_size) * q->size];
+    put_number(to + 2, number, 6);
+    if (source->number == number) {
+        put(to, 0x85);
+        for (unsigned i = 0; i < PAYLOAD; i++)
+            put(to + 14 + 2 * i, source->payload[i]);
+        end_line(to, 14 + 2 * PAYLOAD);
+    } else {
+        uint64_t n = number - 1;
+        put(to, 0x86);
+        put(to + 14, q->row[n - quotient(n, q->by_messages) * q->messages]);
+        end_line(to, 16);
+    }
+    return 0;
+}
+
+/* ---- lines ---- */
+
+/* Takes a line that holds so many bytes; 01 and 02 answer nothing. A line is told by its first
+ * two digits and its length before the rest of its digits are looked at. */
+static unsigned take(unsigned char *to, const unsigned char *line, size_t length)
+{
+    unsigned char frame[MOST_DIGITS / 2];
+    switch (line[1]) {
+    case '5':
+        if (length != RECEIVE || !running || !decode(line, RECEIVE, frame))
+            return NO_FRAME;
+        return receive(to, frame);
+    case '4':
+        if (length < 8 || !running || !decode(line, length, frame))
+            return NO_FRAME;
+        return length == SEND ? send_message(to, frame) : 14;
+    case '1':
+        if (length != 5 || running || tasks == MOST_TASKS || !decode(line, 5, frame))
+            return NO_FRAME;
         task[tasks].period = number_in(frame + 1, 2);
         task[tasks].deadline = number_in(frame + 3, 2);
         tasks++;
         return 0;
-    }
-    if (kind == 2 && length == 4 && !running && queues < MOST_QUEUES) {
+    case '2':
+        if (length != 4 || running || queues == MOST_QUEUES || !decode(line, 4, frame))
+            return NO_FRAME;
         queue[queues].receiver = frame[1];
         queue[queues].mask = (unsigned)number_in(frame + 2, 2);
         queues++;
         return 0;
-    }
-    if (kind == 3 && length == 1 && !running) {
-        start();
+    case '3':
+        if (length != 1 || running)
+            return NO_FRAME;
+        start(to);
         return 0;
+    default:
+        return NO_FRAME;
     }
-    return NO_FRAME;
 }
 
-static bool answer(const char *line, size_t digits)
+/* Where the next answer goes; NULL if what is there could not be written. */
+static inline unsigned char *room(void)
 {
-    unsigned char frame[MOST_DIGITS / 2];
     if (BLOCK - out_used < LONGEST_ANSWER && !flush_out())
+        return NULL;
+    return out + out_used;
+}
+
+static inline bool answer(const unsigned char *line, size_t digits)
+{
+    unsigned char *to = room();
+    if (to == NULL)
         return false;
-    size_t before = out_used;
-    unsigned refusal = take(frame, decode(line, digits, frame));
-    if (refusal != 0)
-        put_refusal(refusal, 0);
-    if (out_used > before)
-        out[out_used++] = '\n';
+    unsigned refusal = NO_FRAME;
+    if (digits >= 2 && digits <= MOST_DIGITS && digits % 2 == 0 && line[0] == '0')
+        refusal = take(to, line, digits / 2);
+    if (refusal == NO_FRAME) {
+        memcpy(to, "7ff000\n", 7);
+        out_used += 7;
+    } else if (refusal != 0)
+        put_refusal(to, refusal, 0);
     return true;
+}
+
+/* The first line feed from a place on, looked for eight bytes at a time; `end` if there is
+ * none. In x a byte is 0 where a line feed stands, and `zero` marks the first such byte by its
+ * lowest bit. */
+static inline const unsigned char *line_feed(const unsigned char *at, const unsigned char *end)
+{
+    const uint64_t ones = UINT64_C(0x0101010101010101);
+    for (; end - at >= 8; at += 8) {
+        uint64_t x = 0;
+        for (int i = 0; i < 8; i++)
+            x |= (uint64_t)at[i] << 8 * i;
+        x ^= ones * '\n';
+        uint64_t zero = (x - ones) & ~x & ones << 7;
+        if (zero != 0)
+            return at + __builtin_ctzll(zero) / 8;
+    }
+    while (at < end && *at != '\n')
+        at++;
+    return at;
+}
+
+/* The two lines of a running console are known by their first digits and their lengths: where
+ * all before the line feed in its place are digits, it is the first one, and the search for it
+ * is saved. The bytes used, 0 if it is another line. */
+static inline size_t quick(const unsigned char *line, const unsigned char *end, unsigned char *to)
+{
+    if (end - line <= 2 * SEND || line[0] != '0')
+        return 0;
+    unsigned char frame[SEND];
+    unsigned refusal;
+    size_t digits;
+    if (line[1] == '4' && line[2 * SEND] == '\n') {
+        digits = 2 * SEND;
+        if (!decode(line, SEND, frame))
+            return 0;
+        refusal = send_message(to, frame);
+    } else if (line[1] == '5' && line[2 * RECEIVE] == '\n') {
+        digits = 2 * RECEIVE;
+        if (!decode(line, RECEIVE, frame))
+            return 0;
+        refusal = receive(to, frame);
+    } else
+        return 0;
+    if (refusal != 0)
+        put_refusal(to, refusal, 0);
+    return digits + 1;
+}
+
+/* Answers the whole lines before `end`; the start of the one that has not ended, NULL if an
+ * answer could not be written. `scan`: no line feed comes before it. */
+static const unsigned char *answer_all(const unsigned char *line, const unsigned char *scan, const unsigned char *end)
+{
+    for (;;) {
+        if (running) {
+            unsigned char *to = room();
+            if (to == NULL)
+                return NULL;
+            size_t used = quick(line, end, to);
+            if (used != 0) {
+                line = scan = line + used;
+                continue;
+            }
+        }
+        const unsigned char *feed = line_feed(scan, end);
+        if (feed == end)
+            return line;
+        if (!answer(line, (size_t)(feed - line)))
+            return NULL;
+        line = scan = feed + 1;
+    }
 }
 
 int main(void)
@@ -405,24 +558,18 @@ int main(void)
     /* A line that began in the block before lies in front of the new block. Of a line over
      * the limit a part is enough: it stays over the limit. */
     enum { KEPT = MOST_DIGITS + 2 };
-    static char in[KEPT + BLOCK];
+    static unsigned char in[KEPT + BLOCK];
     size_t kept = 0;
-    bool pending = false;
+    fill();
     for (;;) {
         ssize_t got = read(0, in + KEPT, BLOCK);
         if (got <= 0)
             break;
-        char *line = in + KEPT - kept;
-        char *end = in + KEPT + got;
-        char *scan = in + KEPT;
-        char *feed;
-        while ((feed = memchr(scan, '\n', (size_t)(end - scan))) != NULL) {
-            if (!answer(line, (size_t)(feed - line)))
-                return 1;
-            line = scan = feed + 1;
-        }
+        const unsigned char *end = in + KEPT + got;
+        const unsigned char *line = answer_all(in + KEPT - kept, in + KEPT, end);
+        if (line == NULL)
+            return 1;
         kept = (size_t)(end - line);
-        pending = kept > 0;
         if (kept > KEPT) {
             kept = KEPT;
             line = end - KEPT;
@@ -431,7 +578,7 @@ int main(void)
         if (!flush_out())
             return 1;
     }
-    if (pending && !answer(in + KEPT - kept, kept))
+    if (kept > 0 && !answer(in + KEPT - kept, kept))
         return 1;
     return flush_out() ? 0 : 1;
 }

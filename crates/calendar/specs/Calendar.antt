@@ -1,22 +1,7 @@
--- How the calendar's types stand for the model's numbers.
+-- What the calendar's functions answer: ticks, jobs, numbers and slots, passed on from Units, and a multiple up to a limit.
 use Rattle.common.specs.Words.{ℕ, _<_, _≤_, arith, Bool, true, false, cond, _≡_, refl, leb, leb-true, leb-false}
-use Rattle.calendar.specs.declared.Tick.{Tick}
-use Rattle.calendar.specs.declared.Job.{Job}
-use Rattle.calendar.specs.declared.Number.{Number}
-use Rattle.calendar.specs.declared.Slot.{Slot}
 use Rattle.calendar.specs.declared.Multiple.{Multiple}
-
-abbrev pub tick : ℕ → Tick
-tick t = record { 0 = t }
-
-abbrev pub job : ℕ → Job
-job k = record { 0 = k }
-
-abbrev pub message : ℕ → Number
-message n = record { 0 = n }
-
-abbrev pub slot : ℕ → Slot
-slot s = record { 0 = s }
+pub use Rattle.calendar.specs.Units.{tick, job, message, slot}
 
 -- n where it is within the limit, and over the limit exactly where it is over
 abbrev pub capped : ℕ → ℕ → Multiple

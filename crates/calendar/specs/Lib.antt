@@ -1,2 +1,3 @@
 -- The pages of this crate's definitions and laws.
+pub mod Units
 pub mod Calendar

@@ -1,6 +1,6 @@
-// One task's calendar: its releases and deadlines, and the common multiple of two periods. Ticks, jobs, message numbers and slots
-// are counted from different places, so each has a type of its own and is converted by the functions here alone.
-// All functions are inner ones: they require what the crates above have tested.
+// One task's calendar: its releases and deadlines, and the common multiple of two periods. Ticks, jobs, message numbers and slots are
+// counted from different places, so each has a type of its own wherever a function hands one on; so many ticks, messages or slots are
+// plain numbers. All functions are inner ones: they require what the crates above have tested.
 ghost use Rattle.common.specs.Words.{_≡_, _<_, _≤_, _^_, _/_};
 ghost use Rattle.model.specs.Model.{Queue, receiverDeadline, wantedFor, count, hasDeadline, released, due, gcd, lcm};
 ghost use Rattle.calendar.specs.Calendar.{tick, job, capped};

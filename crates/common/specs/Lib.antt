@@ -1,5 +1,6 @@
 -- The pages of this crate's definitions and laws.
 pub mod Words
+pub mod Terms
 pub mod Tests
 pub mod Totals
 pub mod Rows

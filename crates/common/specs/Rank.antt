@@ -18,7 +18,8 @@ only-imp : (a b : Bool) → (a ≡ true → b ≡ true) → only a 1 ≤ only b 
 only-imp true b h = rw (h refl) (omega arith)
 only-imp false b h = omega arith
 
-module _ (lt : ℕ → ℕ → Bool) (irrefl : (i : ℕ) → lt i i ≡ false) (trans : (i j k : ℕ) → lt i j ≡ true → lt j k ≡ true → lt i k ≡ true)
+module _ (lt : ℕ → ℕ → Bool) (irrefl : (i : ℕ) → lt i i ≡ false)
+    (trans : (i j k : ℕ) → lt i j ≡ true → lt j k ≡ true → lt i k ≡ true)
     (total : (i j : ℕ) → (i ≡ j → ⊥) → lt i j ≡ false → lt j i ≡ true) (s : ℕ → Bool) where
   rank-size : (n i : ℕ) → rank lt s n i ≤ size s n
   unfolding rank size

@@ -1,21 +1,10 @@
--- Tests over the rows below n: that every row passes, and which row is the first that does not.
-use Rattle.common.specs.Words.{ℕ, zero, suc, _+_, _<_, _≤_, arith, add-one, Bool, true, false, cond, not, _&&_, _⊎_, inl, inr, _↔_, ⊎-elim}
+-- Laws of tests over the rows below n: that every row passes, and which row is the first that does not.
+use Rattle.common.specs.Words.{ℕ, zero, suc, _+_, _<_, _≤_, arith, add-one, Bool, true, false, cond, not, _⊎_, inl, inr, _↔_}
+use Rattle.common.specs.Words.{⊎-elim}
 use Rattle.common.specs.Words.{_≡_, refl, sym, subst, _∙_, ltb, lt-ltb, le-ltb, ltb-true, not-true, not-false}
 use Rattle.common.specs.Tests.{lt-or-le, true-or-false, having, clash, and-left, and-right}
-
--- the test passes at every row below n
-unfoldable pub every : (ℕ → Bool) → ℕ → Bool
-every t zero = true
-every t (suc n) = every t n && t n
-
--- the first row below n that fails the test, and n where all pass
-unfoldable pub firstBad : (ℕ → Bool) → ℕ → ℕ
-firstBad t zero = 0
-firstBad t (suc n) = cond (ltb (firstBad t n) n) (firstBad t n) (cond (t n) (suc n) n)
-
--- the test passes at some row below n
-unfoldable pub some : (ℕ → Bool) → ℕ → Bool
-some t n = ltb (firstBad (λ i. not (t i)) n) n
+unfoldable pub use Rattle.common.specs.Terms.{every, firstBad, some}
+pub use Rattle.common.specs.Terms.{FirstBad}
 
 -- ## Every row
 
@@ -46,7 +35,8 @@ every-fails t i n l e =
     ⊎-elim (λ (h : every t n ≡ true). absurd (clash (every-at t n i h l) e)) (λ h. h) (true-or-false (every t n))
 
 -- where each row's test says a fact of the row, the test of all says it of all
-pub every-iff : {A : ℕ → Type 0} (t : ℕ → Bool) (n : ℕ) → ((i : ℕ) → (t i ≡ true) ↔ A i) → (every t n ≡ true) ↔ ((i : ℕ) → i < n → A i)
+pub every-iff : {A : ℕ → Type 0} (t : ℕ → Bool) (n : ℕ) → ((i : ℕ) → (t i ≡ true) ↔ A i) →
+    (every t n ≡ true) ↔ ((i : ℕ) → i < n → A i)
 every-iff t n f = (λ h i l. f i .0 (every-at t n i h l), λ a. every-of t n (λ i l. f i .1 (a i l)))
 
 -- ## The first bad row
@@ -73,18 +63,15 @@ firstBad-found t i (suc n) l e h =
     rw (firstBad-next t n, rw s at e, le-ltb n n (omega arith), rw s at h) (sym s))
     (lt-or-le i n)
 
--- what it says: each row before it passes, and where it lies below n it fails itself
-pub record FirstBad (t : ℕ → Bool) (n b : ℕ) : Type 0 where
-  pub within : b ≤ n
-  pub before : (i : ℕ) → i < b → t i ≡ true
-  pub bad : b < n → t b ≡ false
-
+-- what it says
 pub firstBad-is : (t : ℕ → Bool) (n : ℕ) → FirstBad t n (firstBad t n)
 firstBad-is t zero = rw (firstBad-none t) (record { within = omega arith; before = λ i l. absurd (omega arith); bad = λ l. absurd (omega arith) })
 firstBad-is t (suc n) = go (firstBad-is t n) (lt-or-le (firstBad t n) n) (true-or-false (t n))
   where
-    go : FirstBad t n (firstBad t n) → (firstBad t n < n) ⊎ (n ≤ firstBad t n) → (t n ≡ true) ⊎ (t n ≡ false) → FirstBad t (suc n) (firstBad t (suc n))
-    go f (inl l) s = rw (firstBad-next t n, lt-ltb (firstBad t n) n l) (record { within = omega (arith, f .within); before = f .before; bad = λ b. f .bad l })
+    go : FirstBad t n (firstBad t n) → (firstBad t n < n) ⊎ (n ≤ firstBad t n) → (t n ≡ true) ⊎ (t n ≡ false) →
+        FirstBad t (suc n) (firstBad t (suc n))
+    go f (inl l) s = rw (firstBad-next t n, lt-ltb (firstBad t n) n l)
+        (record { within = omega (arith, f .within); before = f .before; bad = λ b. f .bad l })
     go f (inr g) (inl h) =
         let e : firstBad t n ≡ n = omega (arith, f .within) in
         rw (firstBad-next t n, le-ltb (firstBad t n) n g, h)
@@ -96,7 +83,8 @@ firstBad-is t (suc n) = go (firstBad-is t n) (lt-or-le (firstBad t n) n) (true-o
         })
     go f (inr g) (inr h) =
         let e : firstBad t n ≡ n = omega (arith, f .within) in
-        rw (firstBad-next t n, le-ltb (firstBad t n) n g, h) (record { within = omega arith; before = λ i l. f .before i (omega arith); bad = λ l. h })
+        rw (firstBad-next t n, le-ltb (firstBad t n) n g, h)
+        (record { within = omega arith; before = λ i l. f .before i (omega arith); bad = λ l. h })
 
 pub every-firstBad : (t : ℕ → Bool) (n : ℕ) → (every t n ≡ true) ↔ (firstBad t n ≡ n)
 every-firstBad t n = (
@@ -114,7 +102,8 @@ firstBad-only t n b f =
     (λ g.
     ⊎-elim (λ (l : firstBad t n < b). absurd (clash (f .before (firstBad t n) l) (g .bad (omega (arith, f .within)))))
     (λ (h : b ≤ firstBad t n).
-    ⊎-elim (λ (l : b < firstBad t n). absurd (clash (g .before b l) (f .bad (omega (arith, g .within))))) (λ (g : firstBad t n ≤ b). omega arith)
+    ⊎-elim (λ (l : b < firstBad t n). absurd (clash (g .before b l) (f .bad (omega (arith, g .within)))))
+    (λ (g : firstBad t n ≤ b). omega arith)
     (lt-or-le b (firstBad t n)))
     (lt-or-le (firstBad t n) b))
 

@@ -3,10 +3,7 @@ use Rattle.common.specs.Words.{_≡_, refl, sym, ap, _∙_, List, [], _�
 use Rattle.common.specs.Words.{le-of-suc-le-suc, add-one, arith, _⊎_, ⊎-elim, length, getD, take, drop, set, length-set, length-take}
 use Rattle.common.specs.Words.{length-drop, sets, length-sets, take-suc, length-take-le, getD-set-same, getD-set-other, getD-take, getD-drop}
 use Rattle.common.specs.Words.{ext-getD, drop-cons, _-_}
-
--- the n elements from index i on
-abbrev pub part : List ℕ → ℕ → ℕ → List ℕ
-part l i n = take n (drop i l)
+pub use Rattle.common.specs.Terms.{part}
 
 -- one run after another is one run
 pub sets-append : (xs ys l : List ℕ) (i : ℕ) → sets l i (xs ++ ys) ≡ sets (sets l i xs) (i + length xs) ys

@@ -1,13 +1,10 @@
--- The list f 0, f 1, .., f (n - 1): what a loop that fills an array from the front leaves.
-use Rattle.common.specs.Words.{_≡_, refl, sym, _∙_, List, [], _∷_, _++_, ℕ, zero, suc, _+_, _<_, not-suc-le-zero, le-of-suc-le-suc}
+-- Laws of the list f 0, f 1, .., f (n - 1): what a loop that fills an array from the front leaves.
+use Rattle.common.specs.Words.{_≡_, refl, sym, _∙_, List, [], _∷_, ℕ, zero, suc, _+_, _<_, not-suc-le-zero, le-of-suc-le-suc}
 use Rattle.common.specs.Words.{eq-or-lt-of-le, add-one, arith, ⊎-elim, length, getD, take, set, length-append, List·getD-append, take-all}
 use Rattle.common.specs.Words.{take-suc-set, getD-at}
+unfoldable pub use Rattle.common.specs.Terms.{table}
 
 module _ {A : Type 0} where
-  unfoldable pub table : (ℕ → A) → ℕ → List A
-  table f zero = []
-  table f (suc n) = table f n ++ (f n ∷ [])
-
   pub table-length : (f : ℕ → A) (n : ℕ) → length (table f n) ≡ n
   unfolding table
   table-length f zero = refl

@@ -1,22 +1,9 @@
--- Totals over the numbers below n, most often the rows of a table: sums and greatest values.
-use Rattle.common.specs.Words.{ℕ, zero, suc, _+_, _-_, _*_, _<_, _≤_, max, arith, add-one, Bool, true, false, _↔_, ⊎-elim, _≡_, refl, subst}
+-- Laws of totals over the numbers below n, most often the rows of a table: sums and greatest values.
+use Rattle.common.specs.Words.{ℕ, zero, suc, _+_, _*_, _<_, _≤_, max, arith, add-one, Bool, true, false, _↔_, ⊎-elim, _≡_}
+use Rattle.common.specs.Words.{refl, subst}
 use Rattle.common.specs.Words.{eqb, eq-eqb, ne-eqb}
 use Rattle.common.specs.Tests.{lt-or-le}
-
--- n where the test passes, else 0
-abbrev pub only : Bool → ℕ → ℕ
-only true n = n
-only false n = 0
-
--- f 0 + f 1 + .. + f (n - 1)
-unfoldable pub sum : (ℕ → ℕ) → ℕ → ℕ
-sum f zero = 0
-sum f (suc n) = sum f n + f n
-
--- the greatest of f 0, f 1, .., f (n - 1), and 0 where there is none
-unfoldable pub most : (ℕ → ℕ) → ℕ → ℕ
-most f zero = 0
-most f (suc n) = max (most f n) (f n)
+unfoldable pub use Rattle.common.specs.Terms.{only, sum, most}
 
 -- `only b`: what has to be shown is shown where b is true
 pub only-le : (b : Bool) (m n : ℕ) → (b ≡ true → m ≤ n) → only b m ≤ only b n
@@ -57,10 +44,12 @@ unfolding sum
 sum-next f n = rw add-one
 
 -- and where the row's share hangs on a test
-pub sum-on : (b : ℕ → Bool) (f : ℕ → ℕ) (n : ℕ) → b n ≡ true → sum (λ j. only (b j) (f j)) (n + 1) ≡ sum (λ j. only (b j) (f j)) n + f n
+pub sum-on : (b : ℕ → Bool) (f : ℕ → ℕ) (n : ℕ) → b n ≡ true →
+    sum (λ j. only (b j) (f j)) (n + 1) ≡ sum (λ j. only (b j) (f j)) n + f n
 sum-on b f n h = rw h at (sum-next (λ j. only (b j) (f j)) n)
 
-pub sum-off : (b : ℕ → Bool) (f : ℕ → ℕ) (n : ℕ) → b n ≡ false → sum (λ j. only (b j) (f j)) (n + 1) ≡ sum (λ j. only (b j) (f j)) n
+pub sum-off : (b : ℕ → Bool) (f : ℕ → ℕ) (n : ℕ) → b n ≡ false →
+    sum (λ j. only (b j) (f j)) (n + 1) ≡ sum (λ j. only (b j) (f j)) n
 sum-off b f n h = omega (arith, rw h at (sum-next (λ j. only (b j) (f j)) n))
 
 pub sum-le : (f g : ℕ → ℕ) (n : ℕ) → ((i : ℕ) → i < n → f i ≤ g i) → sum f n ≤ sum g n
@@ -82,7 +71,8 @@ pub sum-up : (f : ℕ → ℕ) (m n : ℕ) → m ≤ n → sum f m ≤ sum f n
 unfolding sum
 sum-up f m zero h = let e : m ≡ 0 = omega arith in rw e (omega arith)
 sum-up f m (suc n) h =
-    ⊎-elim (λ (l : n < m). let e : m ≡ suc n = omega arith in rw e (omega arith)) (λ (g : m ≤ n). omega (arith, sum-up f m n g)) (lt-or-le n m)
+    ⊎-elim (λ (l : n < m). let e : m ≡ suc n = omega arith in rw e (omega arith)) (λ (g : m ≤ n). omega (arith, sum-up f m n g))
+    (lt-or-le n m)
 
 pub sum-bound : (f : ℕ → ℕ) (n b : ℕ) → ((i : ℕ) → i < n → f i ≤ b) → sum f n ≤ n * b
 unfolding sum

@@ -10,7 +10,7 @@ use Rattle.running.specs.View.{viewOf}
 use Rattle.digits.specs.Hex.{isLine, bytesIn}
 use Rattle.frames.specs.Frames.{frameOf, payloadIn}
 use Rattle.frames.specs.Answers.{longestAnswer, sizesBytes, storedBytes, messageBytes, gapBytes, emptyBytes, refusalBytes, badBytes, lineOf}
-use Rattle.console.specs.Types.{Tick, Plan, Refusal, Planned, Answer, State, Started, Sent, Received, Frame, Desk, Stepped}
+use Rattle.console.specs.Types.{Tick, Plan, Refusal, Planned, Answer, State, Started, Sent, Received, Frame, Desk, Stepped, Reply, Replied}
 
 -- what a line comes to: the desk and the memory after it, and the bytes of the line that answers it, none where it has no answer
 pub record Turn : Type 0 where
@@ -142,12 +142,21 @@ abbrev pub sentBytes : Sent → List ℕ
 sentBytes (Sent.Stored n s) = storedBytes (n .0) (s .0)
 sentBytes (Sent.Refused r) = refusalBytes r
 
-unfoldable pub sendTurn : Desk → List ℕ → ℕ → ℕ → Tick → List ℕ → Turn
-sendTurn d m q i t payload =
-    cond (d .running)
-    (says (withState d (sendState (d .state) (d .plan) m q i (t .0) payload)) (sendMemory (d .state) (d .plan) m q i (t .0) payload)
-    (sentBytes (sendAnswer (d .state) (d .plan) m q i (t .0) payload)))
-    (bad d m)
+-- what a call's line comes to: the state and the memory after it, and the bytes of the line that answers it
+pub record Call : Type 0 where
+  pub state : State
+  pub memory : List ℕ
+  pub answer : List ℕ
+
+abbrev pub unmoved : State → List ℕ → Call
+unmoved s m = record { state = s; memory = m; answer = lineOf badBytes }
+
+abbrev pub sendCall : Plan → State → List ℕ → ℕ → ℕ → Tick → List ℕ → Call
+sendCall p s m q i t payload = record {
+  state = sendState s p m q i (t .0) payload;
+  memory = sendMemory s p m q i (t .0) payload;
+  answer = lineOf (sentBytes (sendAnswer s p m q i (t .0) payload));
+}
 
 -- the payload of a message is what its view shows; the filler's bytes are never written
 abbrev pub filler : List ℕ
@@ -159,21 +168,51 @@ receivedBytes m (Received.Gap n i) = gapBytes (n .0) i
 receivedBytes m Received.Empty = emptyBytes
 receivedBytes m (Received.Refused r) = refusalBytes r
 
-unfoldable pub receiveTurn : Desk → List ℕ → ℕ → Tick → Turn
-receiveTurn d m q t =
-    cond (d .running)
-    (says (withState d (receiveState (d .state) (d .plan) m q (t .0))) m (receivedBytes m (look (d .state) (d .plan) m q (t .0))))
-    (bad d m)
+abbrev pub receiveCall : Plan → State → List ℕ → ℕ → Tick → Call
+receiveCall p s m q t = record {
+  state = receiveState s p m q (t .0);
+  memory = m;
+  answer = lineOf (receivedBytes m (look s p m q (t .0)));
+}
+
+-- any other frame is no call
+abbrev pub callOf : Plan → State → List ℕ → List ℕ → Frame → Call
+callOf p s m payload (Frame.Task period deadline) = unmoved s m
+callOf p s m payload (Frame.Queue receiver mask) = unmoved s m
+callOf p s m payload Frame.Go = unmoved s m
+callOf p s m payload (Frame.Send q i t) = sendCall p s m q i t payload
+callOf p s m payload (Frame.Receive q t) = receiveCall p s m q t
+callOf p s m payload Frame.Bad = unmoved s m
+
+abbrev pub lineCall : Bool → Plan → State → List ℕ → List ℕ → Frame → Call
+lineCall runs p s m payload f = cond runs (callOf p s m payload f) (unmoved s m)
+
+unfoldable pub callTurn : Desk → List ℕ → List ℕ → Frame → Turn
+callTurn d m payload f =
+    let c = lineCall (d .running) (d .plan) (d .state) m payload f in
+    record { desk = withState d (c .state); memory = c .memory; answer = c .answer }
 
 -- ## A frame, a line, and a step
 
+-- 04, 05 and a frame that means nothing leave the table alone
+abbrev pub isCall : Frame → Bool
+isCall (Frame.Task period deadline) = false
+isCall (Frame.Queue receiver mask) = false
+isCall Frame.Go = false
+isCall (Frame.Send q i t) = true
+isCall (Frame.Receive q t) = true
+isCall Frame.Bad = true
+
+abbrev pub tableTurn : Desk → List ℕ → Frame → Turn
+tableTurn d m (Frame.Task period deadline) = taskTurn d m period deadline
+tableTurn d m (Frame.Queue receiver mask) = queueTurn d m receiver mask
+tableTurn d m Frame.Go = goTurn d m
+tableTurn d m (Frame.Send q i t) = bad d m
+tableTurn d m (Frame.Receive q t) = bad d m
+tableTurn d m Frame.Bad = bad d m
+
 abbrev pub frameTurn : Desk → List ℕ → List ℕ → Frame → Turn
-frameTurn d m payload (Frame.Task period deadline) = taskTurn d m period deadline
-frameTurn d m payload (Frame.Queue receiver mask) = queueTurn d m receiver mask
-frameTurn d m payload Frame.Go = goTurn d m
-frameTurn d m payload (Frame.Send q i t) = sendTurn d m q i t payload
-frameTurn d m payload (Frame.Receive q t) = receiveTurn d m q t
-frameTurn d m payload Frame.Bad = bad d m
+frameTurn d m payload f = cond (isCall f) (callTurn d m payload f) (tableTurn d m f)
 
 unfoldable pub bytesTurn : Desk → List ℕ → List ℕ → Turn
 bytesTurn d m bytes = frameTurn d m (payloadIn bytes) (frameOf bytes)
@@ -186,7 +225,16 @@ lineTurn d m line = cond (isLine line) (bytesTurn d m (bytesIn line)) (bad d m)
 unfoldable pub stepOf : Desk → List ℕ → List ℕ → List ℕ → Turn
 stepOf d m line out = cond (ltb (length out) longestAnswer) (silent d m) (lineTurn d m line)
 
--- what a function that takes such a turn hands back, and what it leaves in the memory and in the buffer
+-- what a step hands back, and what it leaves in the memory and in the buffer
+abbrev pub replyOf : List ℕ → Turn → Reply
+replyOf out t = cond (ltb (length out) longestAnswer) Reply.NoRoom (Reply.Written (length (t .answer)))
+
+abbrev pub StepGives : Desk → List ℕ → List ℕ → List ℕ → Replied → List ℕ → List ℕ → Type 0
+StepGives d m line out r memory after =
+    let t = stepOf d m line out in
+    (r ≡ record { desk = t .desk; reply = replyOf out t }) × (memory ≡ t .memory) × (after ≡ sets out 0 (t .answer))
+
+-- what a function that takes a turn hands back, where there is room for its answer
 abbrev pub stepped : Turn → Stepped
 stepped t = record { desk = t .desk; written = length (t .answer) }
 

@@ -8,11 +8,11 @@ use Rattle.digits.specs.NumberLaws.{bytes-length}
 use Rattle.frames.specs.Frames.{frameOf, payloadIn}
 use Rattle.frames.specs.Writing.{line-length, sizes-length}
 use Rattle.frames.specs.Answers.{longestAnswer, sizesBytes, storedBytes, messageBytes, gapBytes, emptyBytes, refusalBytes, badBytes, lineOf}
-use Rattle.console.specs.Types.{Plan, Refusal, Answer, Started, Sent, Received, Frame, Desk}
+use Rattle.console.specs.Types.{Plan, Refusal, Answer, State, Started, Sent, Received, Frame, Desk}
 use Rattle.console.specs.Desk.{Turn, silent, bad, rowTurn, planned, startTurn, planTurn, goTurn, frameTurn, bytesTurn, lineTurn}
-use Rattle.console.specs.Desk.{sentBytes, sendTurn, filler, receivedBytes, receiveTurn}
+use Rattle.console.specs.Desk.{sentBytes, filler, receivedBytes, unmoved, callOf, lineCall, callTurn, isCall, tableTurn}
 use Rattle.console.specs.Starts.{started-queues}
-use Rattle.console.specs.CallTurns.{view-short}
+use Rattle.console.specs.CallLines.{view-short}
 
 -- ## An answer's bytes, at most 31: their digits and the line feed are 63
 
@@ -74,20 +74,34 @@ short-plan : (d : Desk) (p : Plan) (m : List ℕ) (a : Answer) → Short (planTu
 short-plan d p m Answer.Accepted = short-start d p m (startAnswer p m) refl
 short-plan d p m (Answer.Refused r) = short-line (refusalBytes r) (few-refusal r)
 
+short-unmoved : (s : State) (m : List ℕ) → length (unmoved s m .answer) ≤ longestAnswer
+short-unmoved s m = short-line badBytes few-bad
+
+short-call : (p : Plan) (s : State) (m payload : List ℕ) (f : Frame) → length (callOf p s m payload f .answer) ≤ longestAnswer
+short-call p s m payload (Frame.Task period deadline) = short-unmoved s m
+short-call p s m payload (Frame.Queue receiver mask) = short-unmoved s m
+short-call p s m payload Frame.Go = short-unmoved s m
+short-call p s m payload (Frame.Send q i t) = short-line (sentBytes (sendAnswer s p m q i (t .0) payload)) (few-sent (sendAnswer s p m q i (t .0) payload))
+short-call p s m payload (Frame.Receive q t) = short-line (receivedBytes m (look s p m q (t .0))) (few-received m (look s p m q (t .0)))
+short-call p s m payload Frame.Bad = short-unmoved s m
+
+short-lined : (runs : Bool) (p : Plan) (s : State) (m payload : List ℕ) (f : Frame) → length (lineCall runs p s m payload f .answer) ≤ longestAnswer
+short-lined true p s m payload f = short-call p s m payload f
+short-lined false p s m payload f = short-unmoved s m
+
+short-table : (d : Desk) (m : List ℕ) (f : Frame) → Short (tableTurn d m f)
+unfolding goTurn
+short-table d m (Frame.Task period deadline) = short-row d m _ _
+short-table d m (Frame.Queue receiver mask) = short-row d m _ _
+short-table d m Frame.Go = short-if (d .running) (bad d m) _ (short-bad d m) (short-plan d (planned d .plan) m (planned d .answer))
+short-table d m (Frame.Send q i t) = short-bad d m
+short-table d m (Frame.Receive q t) = short-bad d m
+short-table d m Frame.Bad = short-bad d m
+
 short-frame : (d : Desk) (m payload : List ℕ) (f : Frame) → Short (frameTurn d m payload f)
-unfolding goTurn sendTurn receiveTurn
-short-frame d m payload (Frame.Task period deadline) = short-row d m _ _
-short-frame d m payload (Frame.Queue receiver mask) = short-row d m _ _
-short-frame d m payload Frame.Go = short-if (d .running) (bad d m) _ (short-bad d m) (short-plan d (planned d .plan) m (planned d .answer))
-short-frame d m payload (Frame.Send q i t) =
-    short-if (d .running) _ (bad d m)
-    (short-line (sentBytes (sendAnswer (d .state) (d .plan) m q i (t .0) payload)) (few-sent (sendAnswer (d .state) (d .plan) m q i (t .0) payload)))
-    (short-bad d m)
-short-frame d m payload (Frame.Receive q t) =
-    short-if (d .running) _ (bad d m)
-    (short-line (receivedBytes m (look (d .state) (d .plan) m q (t .0))) (few-received m (look (d .state) (d .plan) m q (t .0))))
-    (short-bad d m)
-short-frame d m payload Frame.Bad = short-bad d m
+unfolding callTurn
+short-frame d m payload f =
+    short-if (isCall f) (callTurn d m payload f) (tableTurn d m f) (short-lined (d .running) (d .plan) (d .state) m payload f) (short-table d m f)
 
 pub answer-fits : (d : Desk) (m line : List ℕ) → length (lineTurn d m line .answer) ≤ longestAnswer
 unfolding lineTurn bytesTurn

@@ -1,19 +1,30 @@
 -- A line's bytes as the code takes them: a line that is no frame has none, and no bytes are no frame either.
-use Rattle.common.specs.Words.{ℕ, _≤_, arith, Bool, true, false, cond, List, [], _≡_, refl, sym, _∙_, length, take, le-ltb}
+use Rattle.common.specs.Words.{ℕ, _≤_, arith, Bool, true, false, cond, List, [], _≡_, refl, sym, _∙_, length, take, le-ltb, lt-ltb, _<_}
 use Rattle.digits.specs.Hex.{mostBytes, isLine, bytesIn, decodedOf, decodedInto}
 use Rattle.digits.specs.HexLaws.{decoded-holds, decoded-none}
-use Rattle.console.specs.Types.{Decoded, Desk}
+use Rattle.console.specs.Types.{Decoded, Frame, Desk, Stepped, Reply}
 use Rattle.frames.specs.Answers.{longestAnswer}
-use Rattle.frames.specs.Frames.{frameOf}
-use Rattle.console.specs.Desk.{bad, bytesTurn, lineTurn, stepOf}
+use Rattle.frames.specs.Frames.{frameOf, payloadIn}
+use Rattle.console.specs.Desk.{Turn, bad, withState, lineCall, callTurn, frameTurn, bytesTurn, lineTurn, stepOf, Takes, StepGives}
+use Rattle.console.specs.Turns.{frame-taken}
 
 unfoldable pub framedBytes : List ℕ → List ℕ
 framedBytes line = cond (isLine line) (bytesIn line) []
 
+-- a frame that means nothing is answered alike whether a plan runs or not
+nothing-turn : (d : Desk) (m payload : List ℕ) → callTurn d m payload Frame.Bad ≡ bad d m
+unfolding callTurn withState
+nothing-turn d m payload = go (d .running)
+  where
+    go : (b : Bool) → let c = lineCall b (d .plan) (d .state) m payload Frame.Bad in
+        _≡_ {A = Turn} (record { desk = withState d (c .state); memory = c .memory; answer = c .answer }) (bad d m)
+    go true = refl
+    go false = refl
+
 -- no bytes are answered as a line that is no frame
 no-bytes : (d : Desk) (m : List ℕ) → bytesTurn d m [] ≡ bad d m
 unfolding bytesTurn frameOf
-no-bytes d m = refl
+no-bytes d m = nothing-turn d m (payloadIn [])
 
 pub line-framed : (d : Desk) (m line : List ℕ) → lineTurn d m line ≡ bytesTurn d m (framedBytes line)
 unfolding lineTurn framedBytes
@@ -23,20 +34,31 @@ line-framed d m line = go (isLine line)
     go true = refl
     go false = sym (no-bytes d m)
 
--- with room for an answer a step takes the turn of those bytes
-pub step-framed : (d : Desk) (m line out : List ℕ) → longestAnswer ≤ length out → stepOf d m line out ≡ bytesTurn d m (framedBytes line)
+-- ## A step
+
+pub step-short : (d : Desk) (m line out : List ℕ) → length out < longestAnswer → StepGives d m line out (record { desk = d; reply = Reply.NoRoom }) m out
 unfolding stepOf
-step-framed d m line out room = rw (le-ltb (length out) longestAnswer room) (line-framed d m line)
+step-short d m line out h = rw (lt-ltb (length out) longestAnswer h) (refl, refl, refl)
+
+-- with room for an answer it takes the turn of the line's bytes
+pub step-taken : (d : Desk) (m line out : List ℕ) → longestAnswer ≤ length out → {bytes payload : List ℕ} {f : Frame} {r : Stepped} {memory after : List ℕ} →
+    bytes ≡ framedBytes line → f ≡ frameOf bytes → payload ≡ payloadIn bytes → Takes (frameTurn d m payload f) out r memory after →
+    StepGives d m line out (record { desk = r .desk; reply = Reply.Written (r .written) }) memory after
+unfolding stepOf
+step-taken d m line out room b f p x =
+    let y = rw (b, ← line-framed d m line) at (frame-taken d m _ out f p x) in
+    rw (le-ltb (length out) longestAnswer room, y .0) (refl, y .1, y .2)
 
 -- ## What decoding finds
 
 module _ (line buffer : List ℕ) (x : Decoded) (bytes : List ℕ) (is : (x ≡ decodedOf line) × (bytes ≡ decodedInto line buffer)) where
-  pub framed-some : mostBytes ≤ length buffer → (n : ℕ) → x ≡ Decoded.Bytes n → (n ≤ mostBytes) × (take n bytes ≡ framedBytes line)
+  pub framed-some : mostBytes ≤ length buffer → (n : ℕ) → x ≡ Decoded.Bytes n →
+      (n ≤ mostBytes) × (take n bytes ≡ framedBytes line) × (bytes ≡ decodedInto line buffer)
   unfolding framedBytes
   framed-some room n e =
       let h = decoded-holds line buffer n room (sym (is .0) ∙ e) in
-      (h .within, rw (is .1, h .is-line) (h .bytes-are))
+      (h .within, rw (is .1, h .is-line) (h .bytes-are), is .1)
 
-  pub framed-none : x ≡ Decoded.Bad → (0 ≤ mostBytes) × (take 0 bytes ≡ framedBytes line)
+  pub framed-none : x ≡ Decoded.Bad → (0 ≤ mostBytes) × (take 0 bytes ≡ framedBytes line) × (bytes ≡ decodedInto line buffer)
   unfolding framedBytes
-  framed-none e = (omega arith, rw (decoded-none line (sym (is .0) ∙ e)))
+  framed-none e = (omega arith, rw (decoded-none line (sym (is .0) ∙ e)), is .1)

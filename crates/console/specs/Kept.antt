@@ -10,7 +10,7 @@ use Rattle.frames.specs.Answers.{longestAnswer}
 use Rattle.frames.specs.Frames.{frameOf, payloadIn}
 use Rattle.console.specs.Types.{Plan, Answer, State, Started, Frame, Desk}
 use Rattle.console.specs.Desk.{newDesk, squareOf, planned, withTask, withQueue, withRun, withState, stepOf}
-use Rattle.console.specs.Desk.{Turn, silent, bad, rowTurn, startTurn, planTurn, goTurn, sendTurn, receiveTurn, frameTurn, bytesTurn, lineTurn}
+use Rattle.console.specs.Desk.{Turn, silent, bad, rowTurn, startTurn, planTurn, goTurn, callTurn, isCall, tableTurn, frameTurn, bytesTurn, lineTurn}
 
 pub record Kept (d : Desk) : Type 0 where
   pub sound : d .running ≡ true → soundPlan (d .plan) ≡ true
@@ -53,16 +53,20 @@ planned-sound : (d : Desk) → planned d .answer ≡ Answer.Accepted → soundPl
 unfolding planned
 planned-sound d e = accepted-made (d .tasks) (d .queues) (d .period) (d .deadline) (d .receiver) (squareOf (d .senders)) e .sound
 
-keeps-frame : (d : Desk) (m payload : List ℕ) (f : Frame) → Kept d → Keeps (frameTurn d m payload f)
-unfolding withTask withQueue goTurn sendTurn receiveTurn
-keeps-frame d m payload (Frame.Task period deadline) k =
+keeps-table : (d : Desk) (m : List ℕ) (f : Frame) → Kept d → Keeps (tableTurn d m f)
+unfolding withTask withQueue goTurn
+keeps-table d m (Frame.Task period deadline) k =
     keeps-row d m (leb taskLimit (d .tasks)) (withTask d period deadline) k (record { sound = k .sound })
-keeps-frame d m payload (Frame.Queue receiver mask) k =
+keeps-table d m (Frame.Queue receiver mask) k =
     keeps-row d m (leb queueLimit (d .queues)) (withQueue d receiver mask) k (record { sound = k .sound })
-keeps-frame d m payload Frame.Go k = keeps-if (d .running) (bad d m) _ k (keeps-plan d (planned d .plan) m (planned d .answer) (planned-sound d))
-keeps-frame d m payload (Frame.Send q i t) k = keeps-if (d .running) _ (bad d m) (kept-state d _ k) k
-keeps-frame d m payload (Frame.Receive q t) k = keeps-if (d .running) _ (bad d m) (kept-state d _ k) k
-keeps-frame d m payload Frame.Bad k = k
+keeps-table d m Frame.Go k = keeps-if (d .running) (bad d m) _ k (keeps-plan d (planned d .plan) m (planned d .answer) (planned-sound d))
+keeps-table d m (Frame.Send q i t) k = k
+keeps-table d m (Frame.Receive q t) k = k
+keeps-table d m Frame.Bad k = k
+
+keeps-frame : (d : Desk) (m payload : List ℕ) (f : Frame) → Kept d → Keeps (frameTurn d m payload f)
+unfolding callTurn
+keeps-frame d m payload f k = keeps-if (isCall f) (callTurn d m payload f) (tableTurn d m f) (kept-state d _ k) (keeps-table d m f k)
 
 pub line-keeps : (d : Desk) (m line : List ℕ) → Kept d → Kept (lineTurn d m line .desk)
 unfolding lineTurn bytesTurn

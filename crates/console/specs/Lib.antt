@@ -2,12 +2,8 @@
 pub mod Types
 pub mod Desk
 pub mod Turns
+pub mod CallLines
 pub mod Starts
-pub mod CallTurns
-pub mod Entries
-pub mod Parts
-pub mod SendCalls
-pub mod ReceiveCalls
 pub mod Framing
 pub mod LongLines
 pub mod Kept

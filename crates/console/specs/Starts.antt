@@ -5,7 +5,7 @@ use Rattle.plan.specs.Rules.{soundPlan}
 use Rattle.plan.specs.Sound.{sound-iff}
 use Rattle.plan.specs.Verdicts.{Passed, Stopped, passed-or-stopped, passed-good, stopped-refused, judged-good}
 use Rattle.mailbox.specs.Calls.{fresh, startLines, startAnswer, startMemory}
-use Rattle.mailbox.specs.Outcomes.{starting}
+use Rattle.mailbox.specs.Outcomes.{StartGives}
 use Rattle.frames.specs.Answers.{refusalBytes, sizesBytes}
 use Rattle.frames.specs.Writing.{Written}
 use Rattle.console.specs.Types.{Plan, Refusal, Planned, Answer, Started, Starting, Desk, Stepped}
@@ -31,21 +31,21 @@ refused-untouched p m r e = go (passed-or-stopped (startLines p m))
     go (inl h) = absurd (no-refusal r (sym e ∙ passed-good (startLines p m) Started.Refused Started.Ready h))
     go (inr h) = stopped-refused (startLines p m) (h .0) (λ s. m) _ (h .1)
 
-module _ (d : Desk) (p : Plan) (m out : List ℕ) (x : Starting) (memory : List ℕ) (is : x ≡ starting p m) (left : memory ≡ startMemory p m) where
+module _ (d : Desk) (p : Plan) (m out : List ℕ) (x : Starting) (memory : List ℕ) (is : StartGives p m x memory) where
   pub start-refused : (r : Refusal) (s : Stepped) (after : List ℕ) (k : Desk) → x .answer ≡ Started.Refused r → k ≡ newDesk →
       ((b : List ℕ) → Takes (says k b (refusalBytes r)) out s b after) → Takes (startTurn d p m (startAnswer p m)) out s memory after
   start-refused r s after k e g t =
-      let f : startAnswer p m ≡ Started.Refused r = ap (λ (y : Starting). y .answer) (sym is) ∙ e in
+      let f : startAnswer p m ≡ Started.Refused r = ap (λ (y : Starting). y .answer) (sym (is .0)) ∙ e in
       let u = rw g at (t m) in
-      rw f (u .0, left ∙ refused-untouched p m r f, u .2)
+      rw f (u .0, is .1 ∙ refused-untouched p m r f, u .2)
 
   pub start-ready : (next : Desk) (n : ℕ) (after : List ℕ) → x .answer ≡ Started.Ready → next ≡ withRun d p (x .state) →
       Written (sizesBytes (p .size) (p .queues)) out n after →
       Takes (startTurn d p m (startAnswer p m)) out (record { desk = next; written = n }) memory after
   start-ready next n after e g w =
-      let f : startAnswer p m ≡ Started.Ready = ap (λ (y : Starting). y .answer) (sym is) ∙ e in
-      let o : next ≡ withRun d p fresh = g ∙ ap (λ (y : Starting). withRun d p (y .state)) is in
-      rw (f, left, o) (written _ _ _ out after n w)
+      let f : startAnswer p m ≡ Started.Ready = ap (λ (y : Starting). y .answer) (sym (is .0)) ∙ e in
+      let o : next ≡ withRun d p fresh = g ∙ ap (λ (y : Starting). withRun d p (y .state)) (is .0) in
+      rw (f, is .1, o) (written _ _ _ out after n w)
 
 module _ (d : Desk) (m : List ℕ) where
   pub go-running : d .running ≡ true → goTurn d m ≡ bad d m

@@ -1,5 +1,5 @@
--- Turns as the code takes them: what each test that it makes says of the turn. Here are the rows of 01 and 02, a frame and a line; 03 is
--- in Starts.antt, 04 and 05 in CallTurns.antt.
+-- Turns as the code takes them: what each test that it makes says of the turn. Here are the rows of 01 and 02, and a frame; 03 is in
+-- Starts.antt, 04 and 05 in CallLines.antt.
 use Rattle.common.specs.Words.{ℕ, _<_, Bool, true, false, true≢false, cond, not, _&&_, List, _≡_, refl, sym, ap, _∙_, leb, leb-false, length}
 use Rattle.common.specs.Words.{not-true, lt-ltb}
 use Rattle.frames.specs.Answers.{longestAnswer}
@@ -43,18 +43,9 @@ module _ (d : Desk) (m : List ℕ) (full : Bool) (more : Desk) where
   unfolding rowTurn
   row-added h = row-by (d .running) full _ _ ∙ when-true _ _ h
 
--- ## A frame and a line
-
-pub by-frame : (d : Desk) (m bytes : List ℕ) {g : Frame} (f : Frame) → g ≡ frameOf bytes → g ≡ f →
-    bytesTurn d m bytes ≡ frameTurn d m (payloadIn bytes) f
-unfolding bytesTurn
-by-frame d m bytes f e h = ap (frameTurn d m (payloadIn bytes)) (sym e ∙ h)
+-- ## A frame
 
 pub frame-taken : (d : Desk) (m bytes out : List ℕ) {g : Frame} {payload : List ℕ} {r : Stepped} {memory after : List ℕ} →
     g ≡ frameOf bytes → payload ≡ payloadIn bytes → Takes (frameTurn d m payload g) out r memory after → Takes (bytesTurn d m bytes) out r memory after
 unfolding bytesTurn
 frame-taken d m bytes out e p x = rw (← e, ← p) x
-
-pub step-short : (d : Desk) (m line out : List ℕ) → length out < longestAnswer → stepOf d m line out ≡ silent d m
-unfolding stepOf
-step-short d m line out h = when-true _ _ (lt-ltb (length out) longestAnswer h)

@@ -1,5 +1,4 @@
 -- The types that the pages of the console speak of, its own and those of the crates below, under their own names.
-pub use Rattle.calendar.specs.declared.Job.{Job}
 pub use Rattle.calendar.specs.declared.Number.{Number}
 pub use Rattle.calendar.specs.declared.Slot.{Slot}
 pub use Rattle.calendar.specs.declared.Tick.{Tick}
@@ -8,15 +7,16 @@ pub use Rattle.plan.specs.declared.refusal.Refusal.{Refusal}
 pub use Rattle.planning.specs.declared.Answer.{Answer}
 pub use Rattle.planning.specs.declared.Planned.{Planned}
 pub use Rattle.running.specs.declared.Received.{Received}
+pub use Rattle.running.specs.declared.ReceivedAt.{ReceivedAt}
 pub use Rattle.running.specs.declared.Sent.{Sent}
+pub use Rattle.running.specs.declared.SentAt.{SentAt}
 pub use Rattle.running.specs.declared.Started.{Started}
-pub use Rattle.mailbox.specs.declared.Receiving.{Receiving}
-pub use Rattle.mailbox.specs.declared.Sending.{Sending}
 pub use Rattle.mailbox.specs.declared.Starting.{Starting}
 pub use Rattle.mailbox.specs.declared.State.{State}
 pub use Rattle.digits.specs.declared.hex.Decoded.{Decoded}
 pub use Rattle.frames.specs.declared.frame.Frame.{Frame}
-pub use Rattle.console.specs.declared.parts.Called.{Called}
+pub use Rattle.console.specs.declared.calls.Called.{Called}
 pub use Rattle.console.specs.declared.Desk.{Desk}
-pub use Rattle.console.specs.declared.parts.Spot.{Spot}
+pub use Rattle.console.specs.declared.Reply.{Reply}
+pub use Rattle.console.specs.declared.Replied.{Replied}
 pub use Rattle.console.specs.declared.Stepped.{Stepped}

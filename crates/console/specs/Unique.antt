@@ -1,9 +1,8 @@
 -- The contract of a step determines its outcome.
 use Rattle.common.specs.Words.{ℕ, List, _≡_, sym, _∙_}
-use Rattle.console.specs.Desk.{Takes, stepOf}
-use Rattle.console.specs.Types.{Desk, Stepped}
+use Rattle.console.specs.Desk.{StepGives}
+use Rattle.console.specs.Types.{Desk, Replied}
 
-pub step-unique : (d : Desk) (m line out : List ℕ) (r r′ : Stepped) (memory memory′ after after′ : List ℕ) →
-    Takes (stepOf d m line out) out r memory after → Takes (stepOf d m line out) out r′ memory′ after′ →
-    (r ≡ r′) × (memory ≡ memory′) × (after ≡ after′)
+pub step-unique : (d : Desk) (m line out : List ℕ) (r r′ : Replied) (memory memory′ after after′ : List ℕ) →
+    StepGives d m line out r memory after → StepGives d m line out r′ memory′ after′ → (r ≡ r′) × (memory ≡ memory′) × (after ≡ after′)
 step-unique d m line out r r′ memory memory′ after after′ a b = (a .0 ∙ sym (b .0), a .1 ∙ sym (b .1), a .2 ∙ sym (b .2))

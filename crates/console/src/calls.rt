@@ -1,22 +1,67 @@
-// Frames 04 and 05 from the parts of a desk. The plan is sound where one runs, so rule 7 is not tested again.
-use crate::parts::Called;
-use crate::parts::Spot;
-use crate::run::write_received;
-use crate::run::write_sent;
+// Frames 04 and 05: a send or a receive, and the line that tells its answer. The columns of the plan and of the state are lent, so that a
+// caller keeps its desk where it lies; whether the plan is sound is the caller's to say.
 use calendar::Tick;
+use frames::frame::Frame;
 use mailbox::Received;
 use mailbox::Sent;
 use plan::Plan;
-ghost use Rattle.common.specs.Words.{_≡_, true, _≤_, length};
+ghost use Rattle.common.specs.Words.{_≡_, true, List, ℕ, _≤_, length};
 ghost use Rattle.plan.specs.Plan.{lentPlan};
 ghost use Rattle.plan.specs.Rules.{soundPlan};
 ghost use Rattle.frames.specs.Answers.{longestAnswer};
-ghost use Rattle.console.specs.Types.{Frame, Desk};
-ghost use Rattle.console.specs.Desk.{sendTurn, receiveTurn, Takes};
-ghost use Rattle.console.specs.Parts.{CallsOn, called};
-ghost use Rattle.console.specs.ReceiveCalls.{Countable, leftBy};
+ghost use Rattle.frames.specs.Writing.{Written};
+ghost use Rattle.console.specs.Desk.{sentBytes, receivedBytes, sendCall, receiveCall, lineCall, isCall};
+ghost use Rattle.console.specs.CallLines.{stateOf, Leaves};
 
-pub fn send_line<'a>(
+// The state's tick after a call, and how many bytes of the buffer were written.
+pub struct Called {
+    pub tick: Tick,
+    pub written: usize,
+}
+
+// Whether a frame leaves the table alone: 04, 05, and one that means nothing.
+pub fn is_call(frame: Frame) -> bool
+    ensures { λ r. ⌜ r ≡ isCall frame ⌝ }
+{
+    match frame {
+        Frame::Task(_, _) => false,
+        Frame::Queue(_, _) => false,
+        Frame::Go => false,
+        Frame::Send(_, _, _) => true,
+        Frame::Receive(_, _) => true,
+        Frame::Bad => true,
+    }
+}
+
+fn write_sent(out: &mut [u8], answer: Sent) -> usize
+    requires { ⌜ longestAnswer ≤ length (now out) ⌝ }
+    ensures { λ r. ⌜ Written (sentBytes answer) (now (out .entry)) r (now (out .exit)) ⌝ }
+{
+    match answer {
+        Sent::Stored(number, slot) => frames::answers::write_stored(out, number, slot),
+        Sent::Refused(refusal) => frames::answers::write_refusal(out, refusal),
+    }
+}
+
+fn write_received(out: &mut [u8], memory: &[u8], answer: Received) -> usize
+    requires { ⌜ longestAnswer ≤ length (now out) ⌝ }
+    ensures { λ r. ⌜ Written (receivedBytes (now (memory .entry)) answer) (now (out .entry)) r (now (out .exit)) ⌝ }
+{
+    if let Received::Message(number, _) = answer {
+        let filler = [0; Plan::PAYLOAD_BYTES];
+        return frames::answers::write_message(out, number, view::view(answer, memory, &filler));
+    }
+    if let Received::Gap(number, sender) = answer {
+        return frames::answers::write_gap(out, number, sender);
+    }
+    if let Received::Refused(refusal) = answer {
+        return frames::answers::write_refusal(out, refusal);
+    }
+    frames::answers::write_empty(out)
+}
+
+fn send_line<'a>(
+    sound: bool,
     sends: &'a [bool; Plan::CELLS],
     period: &'a [u64; Plan::TASKS],
     deadline: &'a [u64; Plan::TASKS],
@@ -25,29 +70,25 @@ pub fn send_line<'a>(
     place: &'a [usize; Plan::QUEUES],
     tasks: usize,
     queues: usize,
-    spot: Spot,
     memory: &mut [u8],
+    before: Tick,
+    sent: &mut [u64; Plan::CELLS],
     queue: usize,
     task: usize,
     at: Tick,
     payload: &[u8],
     out: &mut [u8],
 ) -> Called
-    requires { ⌜ (spot .running ≡ true → soundPlan (lentPlan (now sends) (now period) (now deadline) (now receiver) (now size) (now place) tasks queues) ≡ true)
+    requires { ⌜ (sound ≡ soundPlan (lentPlan (now sends) (now period) (now deadline) (now receiver) (now size) (now place) tasks queues))
         × (longestAnswer ≤ length (now out)) ⌝ }
-    ensures { λ r. ⌜ ((d : Desk) → CallsOn d
-        (lentPlan (now (sends .entry)) (now (period .entry)) (now (deadline .entry)) (now (receiver .entry)) (now (size .entry)) (now (place .entry)) tasks queues)
-        spot (Frame.Send queue task at) →
-        Takes (sendTurn d (now (memory .entry)) queue task at (now (payload .entry))) (now (out .entry)) (called d (Frame.Send queue task at) r) (now (memory .exit)) (now (out .exit))) ⌝ }
+    ensures { λ r. ⌜ ((reading : List ℕ) → Leaves (sendCall
+        (lentPlan (now (sends .entry)) (now (period .entry)) (now (deadline .entry)) (now (receiver .entry))
+        (now (size .entry)) (now (place .entry)) tasks queues)
+        (stateOf before (now (sent .entry)) reading) (now (memory .entry)) queue task at (now (payload .entry)))
+        (now (out .entry)) r (now (sent .exit)) reading (now (memory .exit)) (now (out .exit))) ⌝ }
 {
-    if !spot.running {
-        return Called {
-            tick: spot.tick,
-            entry: spot.entry,
-            written: frames::answers::write_bad(out),
-        };
-    }
-    let answer = running::send::send_on(
+    let done = running::send::send_on(
+        sound,
         sends,
         period,
         deadline,
@@ -57,59 +98,21 @@ pub fn send_line<'a>(
         tasks,
         queues,
         memory,
+        sent,
         queue,
         task,
         at,
         payload,
-        Tick(spot.tick),
-        spot.entry,
+        before,
     );
+    let answer = done.answer;
+    let tick = done.tick;
     let written = write_sent(out, answer);
-    if let Sent::Refused(_) = answer {
-        return Called {
-            tick: spot.tick,
-            entry: spot.entry,
-            written,
-        };
-    }
-    let job = calendar::job_at(period[task], at);
-    Called {
-        tick: at.0,
-        entry: job.0 + 1,
-        written,
-    }
+    Called { tick, written }
 }
 
-// What a receive leaves: the place past the number of a message or a gap; an empty answer moves only the tick, and a refusal nothing.
-fn left(answer: Received, at: Tick, spot: Spot, written: usize) -> Called
-    requires { ⌜ Countable answer ⌝ }
-    ensures { λ r. ⌜ r ≡ leftBy answer (at .0) spot written ⌝ }
-{
-    match answer {
-        Received::Message(n, _) => Called {
-            tick: at.0,
-            entry: n.0 + 1,
-            written,
-        },
-        Received::Gap(n, _) => Called {
-            tick: at.0,
-            entry: n.0 + 1,
-            written,
-        },
-        Received::Empty => Called {
-            tick: at.0,
-            entry: spot.entry,
-            written,
-        },
-        Received::Refused(_) => Called {
-            tick: spot.tick,
-            entry: spot.entry,
-            written,
-        },
-    }
-}
-
-pub fn receive_line<'a>(
+fn receive_line<'a>(
+    sound: bool,
     sends: &'a [bool; Plan::CELLS],
     period: &'a [u64; Plan::TASKS],
     deadline: &'a [u64; Plan::TASKS],
@@ -118,27 +121,23 @@ pub fn receive_line<'a>(
     place: &'a [usize; Plan::QUEUES],
     tasks: usize,
     queues: usize,
-    spot: Spot,
     memory: &[u8],
+    before: Tick,
+    reading: &mut [u64; Plan::QUEUES],
     queue: usize,
     at: Tick,
     out: &mut [u8],
 ) -> Called
-    requires { ⌜ (spot .running ≡ true → soundPlan (lentPlan (now sends) (now period) (now deadline) (now receiver) (now size) (now place) tasks queues) ≡ true)
+    requires { ⌜ (sound ≡ soundPlan (lentPlan (now sends) (now period) (now deadline) (now receiver) (now size) (now place) tasks queues))
         × (longestAnswer ≤ length (now out)) ⌝ }
-    ensures { λ r. ⌜ ((d : Desk) → CallsOn d
-        (lentPlan (now (sends .entry)) (now (period .entry)) (now (deadline .entry)) (now (receiver .entry)) (now (size .entry)) (now (place .entry)) tasks queues)
-        spot (Frame.Receive queue at) →
-        Takes (receiveTurn d (now (memory .entry)) queue at) (now (out .entry)) (called d (Frame.Receive queue at) r) (now (memory .entry)) (now (out .exit))) ⌝ }
+    ensures { λ r. ⌜ ((sent : List ℕ) → Leaves (receiveCall
+        (lentPlan (now (sends .entry)) (now (period .entry)) (now (deadline .entry)) (now (receiver .entry))
+        (now (size .entry)) (now (place .entry)) tasks queues)
+        (stateOf before sent (now (reading .entry))) (now (memory .entry)) queue at)
+        (now (out .entry)) r sent (now (reading .exit)) (now (memory .entry)) (now (out .exit))) ⌝ }
 {
-    if !spot.running {
-        return Called {
-            tick: spot.tick,
-            entry: spot.entry,
-            written: frames::answers::write_bad(out),
-        };
-    }
-    let answer = running::receive::receive_on(
+    let done = running::receive::receive_on(
+        sound,
         sends,
         period,
         deadline,
@@ -148,11 +147,94 @@ pub fn receive_line<'a>(
         tasks,
         queues,
         memory,
+        reading,
         queue,
         at,
-        Tick(spot.tick),
-        spot.entry,
+        before,
     );
+    let answer = done.answer;
+    let tick = done.tick;
     let written = write_received(out, memory, answer);
-    left(answer, at, spot, written)
+    Called { tick, written }
+}
+
+// A call's line: `runs` says whether a plan was started, `sound` whether it is sound, `before` is the state's tick, `sent` and `reading` are
+// its columns.
+pub fn call_line<'a>(
+    runs: bool,
+    sound: bool,
+    sends: &'a [bool; Plan::CELLS],
+    period: &'a [u64; Plan::TASKS],
+    deadline: &'a [u64; Plan::TASKS],
+    receiver: &'a [usize; Plan::QUEUES],
+    size: &'a [usize; Plan::QUEUES],
+    place: &'a [usize; Plan::QUEUES],
+    tasks: usize,
+    queues: usize,
+    memory: &mut [u8],
+    before: Tick,
+    sent: &mut [u64; Plan::CELLS],
+    reading: &mut [u64; Plan::QUEUES],
+    frame: Frame,
+    payload: &[u8],
+    out: &mut [u8],
+) -> Called
+    requires { ⌜ (runs ≡ true → sound ≡ soundPlan (lentPlan (now sends) (now period) (now deadline) (now receiver) (now size) (now place) tasks queues))
+        × (longestAnswer ≤ length (now out)) ⌝ }
+    ensures { λ r. ⌜ Leaves (lineCall runs
+        (lentPlan (now (sends .entry)) (now (period .entry)) (now (deadline .entry)) (now (receiver .entry))
+        (now (size .entry)) (now (place .entry)) tasks queues)
+        (stateOf before (now (sent .entry)) (now (reading .entry))) (now (memory .entry)) (now (payload .entry)) frame)
+        (now (out .entry)) r (now (sent .exit)) (now (reading .exit)) (now (memory .exit)) (now (out .exit)) ⌝ }
+{
+    if !runs {
+        return Called {
+            tick: before,
+            written: frames::answers::write_bad(out),
+        };
+    }
+    if let Frame::Send(queue, task, at) = frame {
+        return send_line(
+            sound,
+            sends,
+            period,
+            deadline,
+            receiver,
+            size,
+            place,
+            tasks,
+            queues,
+            memory,
+            before,
+            sent,
+            queue,
+            task,
+            at,
+            payload,
+            out,
+        );
+    }
+    if let Frame::Receive(queue, at) = frame {
+        return receive_line(
+            sound,
+            sends,
+            period,
+            deadline,
+            receiver,
+            size,
+            place,
+            tasks,
+            queues,
+            memory,
+            before,
+            reading,
+            queue,
+            at,
+            out,
+        );
+    }
+    Called {
+        tick: before,
+        written: frames::answers::write_bad(out),
+    }
 }

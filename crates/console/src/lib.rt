@@ -2,24 +2,22 @@
 // what it says and writes at most one line. Each function here takes a turn of specs/Desk.antt.
 mod squares; // squares.rt: which task sends into which queue, from the sender masks
 mod table; // table.rt: frames 01 to 03, until a plan is accepted
-mod run; // run.rt: frames 04 and 05, from then on
-mod calls; // calls.rt: the same from the parts of a desk
-pub mod parts; // parts.rt: the desk in parts, for a caller that keeps it where it lies
+pub mod calls; // calls.rt: frames 04 and 05, from then on
 
+use calls::call_line;
+use calls::is_call;
 use digits::hex::BYTES;
 use digits::hex::Decoded;
 use frames::frame::Frame;
 use mailbox::State;
 use plan::Plan;
-use run::receive;
-use run::send;
 use table::add_queue;
 use table::add_task;
 use table::go;
 ghost use Rattle.common.specs.Words.{_≡_, List, ℕ, _≤_, length, take};
-ghost use Rattle.digits.specs.Hex.{mostBytes};
+ghost use Rattle.digits.specs.Hex.{mostBytes, decodedInto};
 ghost use Rattle.frames.specs.Answers.{longestAnswer};
-ghost use Rattle.console.specs.Desk.{newDesk, bad, bytesTurn, stepOf, Takes};
+ghost use Rattle.console.specs.Desk.{newDesk, bad, withState, tableTurn, frameTurn, Takes, StepGives};
 ghost use Rattle.console.specs.Framing.{framedBytes};
 
 pub struct Desk {
@@ -44,6 +42,18 @@ pub struct Stepped {
     pub written: usize,
 }
 
+// How many bytes of the buffer were written, none where a line has no answer; or that the buffer was shorter than the longest answer.
+pub enum Reply {
+    Written(usize),
+    NoRoom,
+}
+
+// What a step comes to. Where there was no room the line was not taken, and the desk is the one that was handed in.
+pub struct Replied {
+    pub desk: Desk,
+    pub reply: Reply,
+}
+
 // No answer is longer.
 const ROOM: usize = 64;
 
@@ -66,6 +76,14 @@ impl Desk {
     }
 }
 
+// The desk with another state.
+pub fn with_state(mut desk: Desk, state: State) -> Desk
+    ensures { λ r. ⌜ r ≡ withState desk state ⌝ }
+{
+    desk.state = state;
+    desk
+}
+
 // A line that is no frame, or comes at the wrong time.
 fn refuse_line(desk: Desk, out: &mut [u8]) -> Stepped
     requires { ⌜ longestAnswer ≤ length (now out) ⌝ }
@@ -80,7 +98,8 @@ fn refuse_line(desk: Desk, out: &mut [u8]) -> Stepped
 // The bytes of a line at the buffer's start, and how many they are: none where the line is no frame, as no bytes are none.
 pub fn bytes_in(line: &[u8], bytes: &mut [u8]) -> usize
     requires { ⌜ mostBytes ≤ length (now bytes) ⌝ }
-    ensures { λ r. ⌜ (r ≤ mostBytes) × (take r (now (bytes .exit)) ≡ framedBytes (now (line .entry))) ⌝ }
+    ensures { λ r. ⌜ (r ≤ mostBytes) × (take r (now (bytes .exit)) ≡ framedBytes (now (line .entry)))
+        × (now (bytes .exit) ≡ decodedInto (now (line .entry)) (now (bytes .entry))) ⌝ }
 {
     let decoded = digits::hex::decode(line, bytes);
     if let Decoded::Bytes(n) = decoded {
@@ -89,36 +108,88 @@ pub fn bytes_in(line: &[u8], bytes: &mut [u8]) -> usize
     0
 }
 
-pub fn act(desk: Desk, memory: &mut [u8], bytes: &[u8], out: &mut [u8]) -> Stepped
+// Frames 01 to 03, which change the desk as a whole.
+pub fn set_table(desk: Desk, memory: &mut [u8], frame: Frame, out: &mut [u8]) -> Stepped
     requires { ⌜ longestAnswer ≤ length (now out) ⌝ }
-    ensures { λ r. ⌜ Takes (bytesTurn desk (now (memory .entry)) (now (bytes .entry))) (now (out .entry)) r (now (memory .exit)) (now (out .exit)) ⌝ }
+    ensures { λ r. ⌜ Takes (tableTurn desk (now (memory .entry)) frame) (now (out .entry)) r (now (memory .exit)) (now (out .exit)) ⌝ }
 {
-    let frame = frames::frame::frame_of(bytes);
     match frame {
         Frame::Task(period, deadline) => add_task(desk, out, period, deadline),
         Frame::Queue(receiver, mask) => add_queue(desk, out, receiver, mask),
         Frame::Go => go(desk, memory, out),
-        Frame::Send(queue, task, at) => send(
-            desk,
-            memory,
-            out,
-            queue,
-            task,
-            at,
-            frames::frame::payload_in(bytes),
-        ),
-        Frame::Receive(queue, at) => receive(desk, memory, out, queue, at),
+        Frame::Send(_, _, _) => refuse_line(desk, out),
+        Frame::Receive(_, _) => refuse_line(desk, out),
         Frame::Bad => refuse_line(desk, out),
     }
 }
 
-pub fn step(desk: Desk, memory: &mut [u8], line: &[u8], out: &mut [u8]) -> Stepped
-    ensures { λ r. ⌜ Takes (stepOf desk (now (memory .entry)) (now (line .entry)) (now (out .entry))) (now (out .entry)) r (now (memory .exit)) (now (out .exit)) ⌝ }
+// A frame on a desk of any values: its plan is tested first (rule 7).
+fn act(desk: Desk, memory: &mut [u8], frame: Frame, payload: &[u8], out: &mut [u8]) -> Stepped
+    requires { ⌜ longestAnswer ≤ length (now out) ⌝ }
+    ensures { λ r. ⌜ Takes (frameTurn desk (now (memory .entry)) (now (payload .entry)) frame) (now (out .entry)) r
+        (now (memory .exit)) (now (out .exit)) ⌝ }
+{
+    if !is_call(frame) {
+        return set_table(desk, memory, frame, out);
+    }
+    let plan = desk.plan;
+    let state = desk.state;
+    let sound = soundness::sound(plan);
+    let mut sent = state.sent;
+    let mut reading = state.reading;
+    let done = call_line(
+        desk.running,
+        sound,
+        &plan.sends,
+        &plan.period,
+        &plan.deadline,
+        &plan.receiver,
+        &plan.size,
+        &plan.place,
+        plan.tasks,
+        plan.queues,
+        memory,
+        state.tick,
+        &mut sent,
+        &mut reading,
+        frame,
+        payload,
+        out,
+    );
+    let tick = done.tick;
+    let next = State {
+        tick,
+        sent,
+        reading,
+    };
+    Stepped {
+        desk: with_state(desk, next),
+        written: done.written,
+    }
+}
+
+pub fn step(desk: Desk, memory: &mut [u8], line: &[u8], out: &mut [u8]) -> Replied
+    ensures { λ r. ⌜ StepGives desk (now (memory .entry)) (now (line .entry)) (now (out .entry)) r (now (memory .exit)) (now (out .exit)) ⌝ }
 {
     if out.len() < ROOM {
-        return Stepped { desk, written: 0 };
+        return Replied {
+            desk,
+            reply: Reply::NoRoom,
+        };
     }
     let mut bytes = [0; BYTES];
     let n = bytes_in(line, &mut bytes);
-    act(desk, memory, &bytes[..n], out)
+    let frame = frames::frame::frame_of(&bytes[..n]);
+    let done = act(
+        desk,
+        memory,
+        frame,
+        frames::frame::payload_in(&bytes[..n]),
+        out,
+    );
+    let next = done.desk;
+    Replied {
+        desk: next,
+        reply: Reply::Written(done.written),
+    }
 }

@@ -16,6 +16,7 @@ module _ {sends : List Bool} {period deadline : List ℕ} {tasks q : ℕ} (l : L
       omega (arith, upTo-le (columnsAt sends period deadline tasks q) (l .valid) t, mul-le-mul-right t (l .tasks-fit))
 
   -- more messages up to one tick than up to another: it lies after it
-  pub lies-after : {t u n : ℕ} → upTo (columnsAt sends period deadline tasks q) t < n → n ≤ upTo (columnsAt sends period deadline tasks q) u → t < u
+  pub lies-after : {t u n : ℕ} → upTo (columnsAt sends period deadline tasks q) t < n →
+      n ≤ upTo (columnsAt sends period deadline tasks q) u → t < u
   lies-after {t} {u} {n} less more =
       ⊎-elim (λ h. h) (λ h. absurd (omega (arith, upTo-mono (columnsAt sends period deadline tasks q) (l .valid) u t h))) (lt-or-le t u)

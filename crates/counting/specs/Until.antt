@@ -14,7 +14,8 @@ rowUntil q t i j = rowUpTo q (cond (precedes q i j) (t - 1) t) j
 module _ (P D : ℕ) (pos : 1 ≤ P) (dpos : 1 ≤ D) where
   pub count-earlier : (t : ℕ) → count P D (t - 1) + only (hasDeadline P D t) 1 ≡ count P D t
   count-earlier zero =
-      ⊎-elim (λ y. absurd (having (has-job P D 0 pos y) (λ j. omega (arith, j .1)))) (λ n. rw n (omega arith)) (true-or-false (hasDeadline P D 0))
+      ⊎-elim (λ y. absurd (having (has-job P D 0 pos y) (λ j. omega (arith, j .1)))) (λ n. rw n (omega arith))
+      (true-or-false (hasDeadline P D 0))
   count-earlier (suc t) = omega (arith, count-tick P D (suc t) pos dpos (omega arith))
 
   -- by whether the row sends, and whether it goes after

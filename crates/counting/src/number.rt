@@ -1,9 +1,11 @@
 // Equation 2: the number of a task's message with its deadline at a tick. It is the sum over the rows of the messages with deadlines up to
 // the tick, but only up to the tick before for a row that goes after the task among equal deadlines: so no row's remainder is needed.
+use calendar::Number;
 use calendar::Tick;
 use plan::Plan;
 ghost use Rattle.common.specs.Words.{_≡_, cond, _-_, _≤_};
 ghost use Rattle.model.specs.Model.{Queue, precedes};
+ghost use Rattle.calendar.specs.Calendar.{message};
 ghost use Rattle.plan.specs.Limits.{lastTick};
 ghost use Rattle.counting.specs.Columns.{columnsAt, Lent, numberDue};
 
@@ -34,20 +36,21 @@ pub fn number_due<'a>(
     deadline: &'a [u64; Plan::TASKS],
     tasks: usize,
     queue: usize,
-    at: Tick,
+    due: Tick,
     task: usize,
-) -> u64
-    requires { ⌜ Lent (now sends) (now period) (now deadline) tasks queue × (at .0 ≤ lastTick) ⌝ }
-    ensures { λ r. ⌜ r ≡ numberDue (columnsAt (now (sends .entry)) (now (period .entry)) (now (deadline .entry)) tasks queue) (at .0) task ⌝ }
+) -> Number
+    requires { ⌜ Lent (now sends) (now period) (now deadline) tasks queue × (due .0 ≤ lastTick) ⌝ }
+    ensures { λ r. ⌜ r ≡ message (numberDue
+        (columnsAt (now (sends .entry)) (now (period .entry)) (now (deadline .entry)) tasks queue) (due .0) task) ⌝ }
 {
     let base = queue * Plan::TASKS;
-    let before = tick_before(at);
+    let before = tick_before(due);
     let mut sum: u64 = 0;
     for i in 0..tasks {
         if sends[base + i] {
-            let until = last_counted(precedes(task, i), before, at);
+            let until = last_counted(precedes(task, i), before, due);
             sum += calendar::count(period[i], deadline[i], until);
         }
     }
-    sum
+    Number(sum)
 }

@@ -26,7 +26,8 @@ pub fn tick_between<'a>(
     requires { ⌜ Lent (now sends) (now period) (now deadline) tasks queue × (high .0 ≤ lastTick)
         × (upTo (columnsAt (now sends) (now period) (now deadline) tasks queue) (low .0) < n .0)
         × (n .0 ≤ upTo (columnsAt (now sends) (now period) (now deadline) tasks queue) (high .0)) ⌝ }
-    ensures { λ r. ⌜ r ≡ tick (tickOf (columnsAt (now (sends .entry)) (now (period .entry)) (now (deadline .entry)) tasks queue) lastTick (n .0)) ⌝ }
+    ensures { λ r. ⌜ r ≡ tick (tickOf (columnsAt (now (sends .entry)) (now (period .entry)) (now (deadline .entry)) tasks queue) lastTick
+        (n .0)) ⌝ }
 {
     let mut early = low.0;
     let mut late = high.0;
@@ -65,7 +66,8 @@ fn sent_by<'a>(
     row: usize,
 ) -> bool
     requires { ⌜ Lent (now sends) (now period) (now deadline) tasks queue × (row < tasks) × (at .0 ≤ lastTick) ⌝ }
-    ensures { λ r. ⌜ r ≡ sentBy (columnsAt (now (sends .entry)) (now (period .entry)) (now (deadline .entry)) tasks queue) (at .0) (n .0) row ⌝ }
+    ensures { λ r. ⌜ r ≡ sentBy (columnsAt (now (sends .entry)) (now (period .entry)) (now (deadline .entry)) tasks queue) (at .0)
+        (n .0) row ⌝ }
 {
     if due(
         sends[queue * Plan::TASKS + row],
@@ -73,7 +75,8 @@ fn sent_by<'a>(
         deadline[row],
         at,
     ) {
-        number_due(sends, period, deadline, tasks, queue, at, row) == n.0
+        let number = number_due(sends, period, deadline, tasks, queue, at, row);
+        number.0 == n.0
     } else {
         false
     }
@@ -90,7 +93,8 @@ pub fn sender_at<'a>(
     at: Tick,
 ) -> usize
     requires { ⌜ Lent (now sends) (now period) (now deadline) tasks queue × (at .0 ≤ lastTick) ⌝ }
-    ensures { λ r. ⌜ r ≡ firstBad (λ i. not (sentBy (columnsAt (now (sends .entry)) (now (period .entry)) (now (deadline .entry)) tasks queue) (at .0) (n .0) i)) tasks ⌝ }
+    ensures { λ r. ⌜ r ≡ firstBad (λ i. not
+        (sentBy (columnsAt (now (sends .entry)) (now (period .entry)) (now (deadline .entry)) tasks queue) (at .0) (n .0) i)) tasks ⌝ }
 {
     for row in 0..tasks {
         if sent_by(sends, period, deadline, tasks, queue, n, at, row) {

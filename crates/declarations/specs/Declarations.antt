@@ -52,7 +52,8 @@ implementationEnd t n ts = the END ts ⟫ own t ⟫ the DOT ⟫ own n ⟫ the SE
 -- its word, "implementation" NAME "." NAME { section } "end" NAME "." NAME ";"
 unfoldable pub implementation : ℕ → ℕ → ℕ → Rule
 implementation word of place ps ts =
-    quiet (implementationHead word) ps ts ⨟ sections of place ⨟ quiet (implementationEnd (firstName word (Step.On ts)) (secondName word (Step.On ts)))
+    quiet (implementationHead word) ps ts ⨟ sections of place
+    ⨟ quiet (implementationEnd (firstName word (Step.On ts)) (secondName word (Step.On ts)))
 
 -- thread_impl = "thread" "implementation" NAME "." NAME { section } "end" NAME "." NAME ";"
 unfoldable pub threadImplementation : Rule

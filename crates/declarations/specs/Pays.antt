@@ -16,7 +16,8 @@ use Rattle.threads.specs.Pays.{subcomponents-pay}
 use Rattle.links.specs.Pays.{connections-pay}
 use Rattle.declarations.specs.Sections.{listKind, listed, listIn, propertiesOf, section, begins, sections}
 use Rattle.declarations.specs.Declarations.{typeName, parentIn, typeEnd, threadType}
-use Rattle.declarations.specs.Declarations.{firstName, secondName, implementationEnd, implementation, threadImplementation, processImplementation}
+use Rattle.declarations.specs.Declarations.{firstName, secondName, implementationEnd, implementation}
+use Rattle.declarations.specs.Declarations.{threadImplementation, processImplementation}
 use Rattle.declarations.specs.Laws.{type-head-moves, type-end-moves, implementation-head-moves, implementation-end-moves}
 
 -- ## Sections
@@ -34,7 +35,8 @@ the-stays kind ts = moved-either (is kind ts) (moves-any ts) stopped
 
 list-pays : (word place : ℕ) → Pays 0 0 (listIn word place)
 unfolding listIn
-list-pays word place ps ts = paid-onward _ (noneOr (listed word place)) (paid-moved (the-stays word ts)) (none-or-pays (listed word place) (listed-pays word place))
+list-pays word place ps ts = paid-onward _ (noneOr (listed word place)) (paid-moved (the-stays word ts))
+    (none-or-pays (listed word place) (listed-pays word place))
 
 properties-pay : (of : ℕ) → Pays 0 1 (propertiesOf of)
 unfolding propertiesOf
@@ -50,7 +52,8 @@ section-pays : (of place : ℕ) → Pays 0 0 (section of place)
 unfolding section
 section-pays of place ps ts =
     cases (PaidBy 0 0 ts) (listKind of (next ts)) (λ _. list-pays (next ts) place ps ts)
-    (λ _. cases (PaidBy 0 0 ts) (is PROPERTIES ts) (λ _. paid-less 0 0 (omega arith) (omega arith) (properties-pay of ps ts)) (λ _. paid-moved (skipped-stays ts)))
+    (λ _. cases (PaidBy 0 0 ts) (is PROPERTIES ts) (λ _. paid-less 0 0 (omega arith) (omega arith) (properties-pay of ps ts))
+    (λ _. paid-moved (skipped-stays ts)))
 
 pub sections-pay : (of place : ℕ) → Pays 0 0 (sections of place)
 unfolding sections
@@ -72,7 +75,8 @@ unfolding implementation
 implementation-pays word of place n ps ts =
     paid-onward _ (quiet (implementationEnd (firstName word (On ts)) (secondName word (On ts))))
     (paid-onward _ (sections of place) (paid-moved (implementation-head-moves word n ts)) (sections-pay of place))
-    (pays-quiet (implementationEnd (firstName word (On ts)) (secondName word (On ts))) (implementation-end-moves (firstName word (On ts)) (secondName word (On ts))))
+    (pays-quiet (implementationEnd (firstName word (On ts)) (secondName word (On ts)))
+    (implementation-end-moves (firstName word (On ts)) (secondName word (On ts))))
 
 pub thread-implementation-pays : Pays 0 1 threadImplementation
 unfolding threadImplementation

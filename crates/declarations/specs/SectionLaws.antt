@@ -1,5 +1,6 @@
 -- Laws of sections: which one begins, what the code does in it, and how far it goes.
-use Rattle.common.specs.Words.{ℕ, suc, arith, Bool, true, false, true≢false, cond, List, _≡_, refl, sym, ap, _∙_, eqb, eq-eqb, ne-eqb, eqb-true}
+use Rattle.common.specs.Words.{ℕ, suc, arith, Bool, true, false, true≢false, cond, List, _≡_, refl, sym}
+use Rattle.common.specs.Words.{ap, _∙_, eqb, eq-eqb, ne-eqb, eqb-true}
 use Rattle.words.specs.Kinds.{ENDED, FEATURES, SUBCOMPONENTS, CONNECTIONS, PROPERTIES, MODES}
 use Rattle.tokens.specs.Tokens.{Token}
 use Rattle.tokens.specs.Laws.{cases}
@@ -68,7 +69,8 @@ module _ (word place : ℕ) (s : State) where
       by-true (subcomponents place) (connections place) s (eqb word SUBCOMPONENTS) (eq-eqb word SUBCOMPONENTS e)
       ∙ by-false (features place) inner s (eqb word FEATURES) (ne-eqb word FEATURES n)
 
-  pub listed-connections : (word ≡ FEATURES → ⊥) → (word ≡ SUBCOMPONENTS → ⊥) → does s (connections place) ≡ does s (listed word place)
+  pub listed-connections : (word ≡ FEATURES → ⊥) → (word ≡ SUBCOMPONENTS → ⊥) →
+      does s (connections place) ≡ does s (listed word place)
   unfolding listed
   listed-connections n m =
       by-false (subcomponents place) (connections place) s (eqb word SUBCOMPONENTS) (ne-eqb word SUBCOMPONENTS m)
@@ -91,19 +93,24 @@ module _ (of place : ℕ) (s : State) where
   pub section-list : listKind of (firstKind (s .went)) ≡ true → does s (listIn (firstKind (s .went)) place) ≡ does s (section of place)
   unfolding does section
   section-list =
-      by-went (λ (s : State). listKind of (firstKind (s .went)) ≡ true → does s (listIn (firstKind (s .went)) place) ≡ does s (section of place))
+      by-went (λ (s : State). listKind of (firstKind (s .went)) ≡ true →
+      does s (listIn (firstKind (s .went)) place) ≡ does s (section of place))
       (λ ts qs x t h. rw h) (λ f qs x t h. refl) s
 
-  pub section-properties : listKind of (firstKind (s .went)) ≡ false → firstKind (s .went) ≡ PROPERTIES → does s (propertiesOf of) ≡ does s (section of place)
+  pub section-properties : listKind of (firstKind (s .went)) ≡ false → firstKind (s .went) ≡ PROPERTIES →
+      does s (propertiesOf of) ≡ does s (section of place)
   unfolding does section
   section-properties =
-      by-went (λ (s : State). listKind of (firstKind (s .went)) ≡ false → firstKind (s .went) ≡ PROPERTIES → does s (propertiesOf of) ≡ does s (section of place))
+      by-went (λ (s : State). listKind of (firstKind (s .went)) ≡ false →
+      firstKind (s .went) ≡ PROPERTIES → does s (propertiesOf of) ≡ does s (section of place))
       (λ ts qs x t h e. rw (h, eq-eqb (next ts) PROPERTIES e)) (λ f qs x t h e. refl) s
 
-  pub section-skipped : listKind of (firstKind (s .went)) ≡ false → (firstKind (s .went) ≡ PROPERTIES → ⊥) → does s (quiet skipped) ≡ does s (section of place)
+  pub section-skipped : listKind of (firstKind (s .went)) ≡ false → (firstKind (s .went) ≡ PROPERTIES → ⊥) →
+      does s (quiet skipped) ≡ does s (section of place)
   unfolding does section
   section-skipped =
-      by-went (λ (s : State). listKind of (firstKind (s .went)) ≡ false → (firstKind (s .went) ≡ PROPERTIES → ⊥) → does s (quiet skipped) ≡ does s (section of place))
+      by-went (λ (s : State). listKind of (firstKind (s .went)) ≡ false →
+      (firstKind (s .went) ≡ PROPERTIES → ⊥) → does s (quiet skipped) ≡ does s (section of place))
       (λ ts qs x t h n. rw (h, ne-eqb (next ts) PROPERTIES n)) (λ f qs x t h n. refl) s
 
 -- ## How far it goes
@@ -112,12 +119,14 @@ listed-moves : (word place : ℕ) → MovesOn 0 (listed word place)
 unfolding listed
 listed-moves word place ps ts =
     cases (λ (s : Said). Moved 0 ts (s .went)) (eqb word FEATURES) (λ _. features-moves place ps ts)
-    (λ _. cases (λ (s : Said). Moved 0 ts (s .went)) (eqb word SUBCOMPONENTS) (λ _. subcomponents-moves place ps ts) (λ _. connections-moves place ps ts))
+    (λ _. cases (λ (s : Said). Moved 0 ts (s .went)) (eqb word SUBCOMPONENTS)
+    (λ _. subcomponents-moves place ps ts) (λ _. connections-moves place ps ts))
 
 list-moves : (word place : ℕ) → (word ≡ ENDED → ⊥) → MovesOn 1 (listIn word place)
 unfolding listIn
 list-moves word place n ps ts =
-    moved-onward _ (noneOr (listed word place)) (moved-less 1 (weighs word n) (moves-the word n ts)) (none-or-moves (listed word place) (listed-moves word place))
+    moved-onward _ (noneOr (listed word place)) (moved-less 1 (weighs word n) (moves-the word n ts))
+    (none-or-moves (listed word place) (listed-moves word place))
 
 properties-moves : (of : ℕ) → MovesOn 1 (propertiesOf of)
 unfolding propertiesOf

@@ -13,7 +13,8 @@ use Rattle.threads.specs.Wide.{subcomponents-wide}
 use Rattle.links.specs.Wide.{connections-wide}
 use Rattle.declarations.specs.Sections.{listKind, listed, listIn, propertiesOf, section, begins, sections}
 use Rattle.declarations.specs.Declarations.{typeName, parentIn, typeHead, typeEnd, threadType}
-use Rattle.declarations.specs.Declarations.{firstName, secondName, implementationHead, implementationEnd, implementation, threadImplementation, processImplementation}
+use Rattle.declarations.specs.Declarations.{firstName, secondName, implementationHead, implementationEnd, implementation}
+use Rattle.declarations.specs.Declarations.{threadImplementation, processImplementation}
 
 listed-wide : (word place : ℕ) → WideOn (listed word place)
 unfolding listed
@@ -29,7 +30,8 @@ list-wide word place ps ts =
 properties-wide : (of : ℕ) → WideOn (propertiesOf of)
 unfolding propertiesOf
 properties-wide of ps ts =
-    cases Wide (eqb of aProcess) (λ _. properties-in-wide ofProcess ps ts) (λ _. wide-adding (propertiesIn ofThread) (properties-in-wide ofThread) ps ts)
+    cases Wide (eqb of aProcess) (λ _. properties-in-wide ofProcess ps ts)
+    (λ _. wide-adding (propertiesIn ofThread) (properties-in-wide ofThread) ps ts)
 
 section-wide : (of place : ℕ) → WideOn (section of place)
 unfolding section

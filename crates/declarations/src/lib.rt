@@ -43,7 +43,8 @@ ghost use Rattle.steps.specs.Steps.{_⟫_, head};
 ghost use Rattle.steps.specs.Lifted.{lift};
 ghost use Rattle.rows.specs.States.{stateOf, does};
 ghost use Rattle.declarations.specs.Sections.{listKind, allowed, listed, listIn, propertiesOf, section, sections};
-ghost use Rattle.declarations.specs.Declarations.{maybeExtends, typeEnd, threadType, implementationEnd, implementation, threadImplementation, processImplementation};
+ghost use Rattle.declarations.specs.Declarations.{maybeExtends, typeEnd, threadType, implementationEnd, implementation};
+ghost use Rattle.declarations.specs.Declarations.{threadImplementation, processImplementation};
 
 // What the rows of these begin with.
 const A_PROCESS: usize = 1;
@@ -83,7 +84,8 @@ fn begins(of: usize, kind: usize) -> bool
 
 // { feature } | { subcomponent } | { connection }
 fn listed(text: &[u8], rows: &mut [usize], reading: Reading, word: usize, place: usize) -> Reading
-    ensures { λ r. ⌜ stateOf (now (text .entry)) r (now (rows .exit)) ≡ does (stateOf (now (text .entry)) reading (now (rows .entry))) (listed word place) ⌝ }
+    ensures { λ r. ⌜ stateOf (now (text .entry)) r (now (rows .exit))
+        ≡ does (stateOf (now (text .entry)) reading (now (rows .entry))) (listed word place) ⌝ }
 {
     if word == FEATURES {
         return features(text, rows, reading, place);
@@ -96,7 +98,8 @@ fn listed(text: &[u8], rows: &mut [usize], reading: Reading, word: usize, place:
 
 // Its word, then ( "none" ";" | { .. } )
 fn list_in(text: &[u8], rows: &mut [usize], reading: Reading, word: usize, place: usize) -> Reading
-    ensures { λ r. ⌜ stateOf (now (text .entry)) r (now (rows .exit)) ≡ does (stateOf (now (text .entry)) reading (now (rows .entry))) (listIn word place) ⌝ }
+    ensures { λ r. ⌜ stateOf (now (text .entry)) r (now (rows .exit))
+        ≡ does (stateOf (now (text .entry)) reading (now (rows .entry))) (listIn word place) ⌝ }
 {
     let inner = symbol_on(text, reading, word);
     let went = inner.went;
@@ -124,7 +127,8 @@ fn properties_of(text: &[u8], reading: Reading, of: usize) -> Reading
 }
 
 fn section(text: &[u8], rows: &mut [usize], reading: Reading, of: usize, place: usize) -> Reading
-    ensures { λ r. ⌜ stateOf (now (text .entry)) r (now (rows .exit)) ≡ does (stateOf (now (text .entry)) reading (now (rows .entry))) (section of place) ⌝ }
+    ensures { λ r. ⌜ stateOf (now (text .entry)) r (now (rows .exit))
+        ≡ does (stateOf (now (text .entry)) reading (now (rows .entry))) (section of place) ⌝ }
 {
     let kind = next_of(text, reading);
     if begins_list(of, kind) {
@@ -139,7 +143,8 @@ fn section(text: &[u8], rows: &mut [usize], reading: Reading, of: usize, place: 
 
 // { section }
 fn sections(text: &[u8], rows: &mut [usize], reading: Reading, of: usize, place: usize) -> Reading
-    ensures { λ r. ⌜ stateOf (now (text .entry)) r (now (rows .exit)) ≡ does (stateOf (now (text .entry)) reading (now (rows .entry))) (sections of place) ⌝ }
+    ensures { λ r. ⌜ stateOf (now (text .entry)) r (now (rows .exit))
+        ≡ does (stateOf (now (text .entry)) reading (now (rows .entry))) (sections of place) ⌝ }
 {
     let mut r = reading;
     while begins(of, next_of(text, r)) {
@@ -167,7 +172,8 @@ fn type_end(text: &[u8], went: Went, named: usize) -> Went
 
 // "thread" NAME [ "extends" classifier ] { section } "end" NAME ";"
 pub fn thread_type(text: &[u8], rows: &mut [usize], reading: Reading) -> Reading
-    ensures { λ r. ⌜ stateOf (now (text .entry)) r (now (rows .exit)) ≡ does (stateOf (now (text .entry)) reading (now (rows .entry))) threadType ⌝ }
+    ensures { λ r. ⌜ stateOf (now (text .entry)) r (now (rows .exit))
+        ≡ does (stateOf (now (text .entry)) reading (now (rows .entry))) threadType ⌝ }
 {
     let went = reading.went;
     let before = symbol(text, went, THREAD);
@@ -188,7 +194,8 @@ pub fn thread_type(text: &[u8], rows: &mut [usize], reading: Reading) -> Reading
 
 // "end" NAME "." NAME ";", the NAMEs that stand at two places
 fn implementation_end(text: &[u8], went: Went, first: usize, second: usize) -> Went
-    ensures { λ r. ⌜ lift (now (text .entry)) r ≡ lift (now (text .entry)) went ⟫ implementationEnd (head (from (now (text .entry)) first)) (head (from (now (text .entry)) second)) ⌝ }
+    ensures { λ r. ⌜ lift (now (text .entry)) r ≡ lift (now (text .entry)) went
+        ⟫ implementationEnd (head (from (now (text .entry)) first)) (head (from (now (text .entry)) second)) ⌝ }
 {
     let typed = symbol(text, own(text, symbol(text, went, END), first), DOT);
     symbol(text, own(text, typed, second), SEMICOLON)
@@ -203,7 +210,8 @@ fn implementation(
     of: usize,
     place: usize,
 ) -> Reading
-    ensures { λ r. ⌜ stateOf (now (text .entry)) r (now (rows .exit)) ≡ does (stateOf (now (text .entry)) reading (now (rows .entry))) (implementation word of place) ⌝ }
+    ensures { λ r. ⌜ stateOf (now (text .entry)) r (now (rows .exit))
+        ≡ does (stateOf (now (text .entry)) reading (now (rows .entry))) (implementation word of place) ⌝ }
 {
     let went = reading.went;
     let typed = symbol(text, symbol(text, went, word), IMPLEMENTATION);
@@ -217,7 +225,8 @@ fn implementation(
 
 // "thread" "implementation" ..
 pub fn thread_implementation(text: &[u8], rows: &mut [usize], reading: Reading) -> Reading
-    ensures { λ r. ⌜ stateOf (now (text .entry)) r (now (rows .exit)) ≡ does (stateOf (now (text .entry)) reading (now (rows .entry))) threadImplementation ⌝ }
+    ensures { λ r. ⌜ stateOf (now (text .entry)) r (now (rows .exit))
+        ≡ does (stateOf (now (text .entry)) reading (now (rows .entry))) threadImplementation ⌝ }
 {
     let went = reading.went;
     let typed = symbol(text, symbol(text, went, THREAD), IMPLEMENTATION);
@@ -244,7 +253,8 @@ pub fn thread_implementation(text: &[u8], rows: &mut [usize], reading: Reading) 
 
 // "process" "implementation" ..
 pub fn process_implementation(text: &[u8], rows: &mut [usize], reading: Reading) -> Reading
-    ensures { λ r. ⌜ stateOf (now (text .entry)) r (now (rows .exit)) ≡ does (stateOf (now (text .entry)) reading (now (rows .entry))) processImplementation ⌝ }
+    ensures { λ r. ⌜ stateOf (now (text .entry)) r (now (rows .exit))
+        ≡ does (stateOf (now (text .entry)) reading (now (rows .entry))) processImplementation ⌝ }
 {
     let went = reading.went;
     let place = start_of(text, went);

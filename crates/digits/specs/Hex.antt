@@ -1,13 +1,13 @@
 -- "The program reads lines of lower-case hexadecimal": which lines hold bytes, the bytes that they hold, and bytes as digits.
 -- A line is any list of bytes, without its line feed.
 use Rattle.common.specs.Words.{ℕ, _+_, _-_, _*_, _/_, _%_, Bool, cond, _&&_, List, [], _∷_, leb, ltb, eqb, length, getD, sets}
-use Rattle.common.specs.Rows.{every, firstBad}
+use Rattle.common.specs.Rows.{every}
 use Rattle.common.specs.Table.{table}
 use Rattle.digits.specs.declared.hex.Decoded.{Decoded}
 
--- a lower-case digit's value; for any other byte 256, which no two digits reach
+-- a lower-case digit's value; for any other byte 16, which no digit has
 abbrev pub noDigit : ℕ
-noDigit = 256
+noDigit = 16
 
 unfoldable pub digit : ℕ → ℕ
 digit c =
@@ -45,13 +45,15 @@ bytesIn line = table (byteAt line) (length line / 2)
 unfoldable pub decodedOf : List ℕ → Decoded
 decodedOf line = cond (isLine line) (Decoded.Bytes (length line / 2)) Decoded.Bad
 
--- the bytes before the first that is not two digits are in the buffer
 abbrev pub pairAt : List ℕ → ℕ → Bool
 pairAt line k = digitAt line (2 * k) && digitAt line (2 * k + 1)
 
+-- what a pair leaves in the buffer: its byte; where it is not two digits, as much of that number as fits
+abbrev pub storedAt : List ℕ → ℕ → ℕ
+storedAt line k = byteAt line k % 256
+
 unfoldable pub decodedInto : List ℕ → List ℕ → List ℕ
-decodedInto line buffer =
-    cond (evenLine line) (sets buffer 0 (table (byteAt line) (firstBad (pairAt line) (length line / 2)))) buffer
+decodedInto line buffer = cond (evenLine line) (sets buffer 0 (table (storedAt line) (length line / 2))) buffer
 
 -- ## Bytes as digits
 

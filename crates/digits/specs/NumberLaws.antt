@@ -1,7 +1,7 @@
 -- Laws of numbers in bytes, over their width: what a loop adds in one turn, bounds, and that what was written is read back.
 use Rattle.common.specs.Words.{ℕ, zero, suc, _+_, _-_, _*_, _/_, _%_, _^_, _<_, _≤_, arith, add-one, div-add-mod', div-lt-iff-lt-mul, pow-suc}
-use Rattle.common.specs.Words.{pow-le-pow-right, List, [], _∷_, _++_, _≡_, refl, sym, ap, _∙_, length, getD, set, length-append, List·getD-append}
-use Rattle.common.specs.Words.{sets, set-comm, getD-at}
+use Rattle.common.specs.Words.{pow-le-pow-right, List, [], _∷_, _++_, _≡_, refl, sym, ap, _∙_, length, getD, set, length-append}
+use Rattle.common.specs.Words.{List·getD-append, sets, set-comm, getD-at}
 use Rattle.common.specs.Stores.{sets-append}
 use Rattle.digits.specs.Hex.{digits}
 use Rattle.digits.specs.HexLaws.{digits-append, digits-length}
@@ -33,7 +33,8 @@ bytes-last (suc width) n h = let e : suc width - 1 ≡ width = omega arith in rw
 set-sets : (vs l : List ℕ) (i j x : ℕ) → i < j → sets (set l i x) j vs ≡ set (sets l j vs) i x
 set-sets [] l i j x h = refl
 set-sets (v ∷ vs) l i j x h =
-    ap (λ (m : List ℕ). sets m (suc j) vs) (set-comm l i j x v (λ (e : i ≡ j). omega arith)) ∙ set-sets vs (set l j v) i (suc j) x (omega arith)
+    let swapped = set-comm l i j x v (λ (e : i ≡ j). omega arith) in
+    ap (λ (m : List ℕ). sets m (suc j) vs) swapped ∙ set-sets vs (set l j v) i (suc j) x (omega arith)
 
 pub sets-swap : (xs ys l : List ℕ) (i j : ℕ) → i + length xs ≤ j → sets (sets l i xs) j ys ≡ sets (sets l j ys) i xs
 sets-swap [] ys l i j h = refl

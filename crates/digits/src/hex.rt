@@ -1,6 +1,8 @@
 // Lower-case hexadecimal: the digits of a line as bytes, and bytes as digits.
-ghost use Rattle.common.specs.Words.{_≡_, [], _∷_, _+_, _*_, _≤_, _<_, length, sets};
-ghost use Rattle.digits.specs.Hex.{digit, mostBytes, decodedOf, decodedInto, letter, digits};
+ghost use Rattle.common.specs.Words.{_≡_, [], _∷_, _+_, _*_, _%_, _≤_, _<_, length, sets};
+ghost use Rattle.common.specs.Rows.{every};
+ghost use Rattle.common.specs.Table.{table};
+ghost use Rattle.digits.specs.Hex.{digit, mostBytes, pairAt, storedAt, decodedOf, decodedInto, letter, digits};
 
 // The longest line that is a frame, and the bytes that it holds.
 const LONGEST: usize = 100;
@@ -13,23 +15,38 @@ pub enum Decoded {
     Bad,
 }
 
-// A digit's value, 256 for any other byte. Both guesses are reckoned before one is chosen, so that no branch hangs on the digit, and in
-// 32 bits, which want no cutting back to a byte.
-fn value_of(c: u8) -> u32
+// A digit's value, 16 for any other byte. Both guesses are reckoned before one is chosen, so that no branch hangs on the digit.
+fn value_of(c: u8) -> u8
     ensures { λ r. ⌜ r ≡ digit c ⌝ }
 {
-    let wide = c as u32;
-    let decimal = std::num::wrapping_sub_u32(wide, b'0' as u32);
-    let letter = std::num::wrapping_sub_u32(wide, b'a' as u32);
-    let other = if letter < 6 { letter + 10 } else { 256 };
+    let decimal = std::num::wrapping_sub_u8(c, b'0');
+    let letter = std::num::wrapping_sub_u8(c, b'a');
+    let other = if letter < 6 { letter + 10 } else { 16 };
     if decimal < 10 { decimal } else { other }
 }
 
-// The byte of two digits, 256 or more where one of them is none: one test tells.
-fn byte_of(high: u8, low: u8) -> u32
-    ensures { λ r. ⌜ r ≡ digit high * 16 + digit low ⌝ }
+// The byte of two digits; what does not fit is cut off, where one of them is none.
+fn byte_of(high: u8, low: u8) -> u8
+    ensures { λ r. ⌜ r ≡ (high * 16 + low) % 256 ⌝ }
 {
-    value_of(high) * 16 + value_of(low)
+    ((high as u32 * 16 + low as u32) % 256) as u8
+}
+
+// Puts the bytes of `n` pairs into the buffer and tells whether all of them are digits. That is tested once, behind the loop, by the bits
+// of all values: a loop without a way out is compiled to instructions that take sixteen pairs at once.
+fn decode_pairs(line: &[u8], bytes: &mut [u8], n: usize) -> bool
+    requires { ⌜ (2 * n ≤ length (now line)) × (n ≤ length (now bytes)) ⌝ }
+    ensures { λ r. ⌜ (r ≡ every (pairAt (now (line .entry))) n)
+        × (now (bytes .exit) ≡ sets (now (bytes .entry)) 0 (table (storedAt (now (line .entry))) n)) ⌝ }
+{
+    let mut bits: u8 = 0;
+    for k in 0..n {
+        let high = value_of(line[2 * k]);
+        let low = value_of(line[2 * k + 1]);
+        bytes[k] = byte_of(high, low);
+        bits = bits | high | low;
+    }
+    bits < 16
 }
 
 // The bytes of a line, from the buffer's start on.
@@ -44,14 +61,10 @@ pub fn decode(line: &[u8], bytes: &mut [u8]) -> Decoded
         return Decoded::Bad;
     }
     let n = line.len() / 2;
-    for k in 0..n {
-        let byte = byte_of(line[2 * k], line[2 * k + 1]);
-        if 255 < byte {
-            return Decoded::Bad;
-        }
-        bytes[k] = byte as u8;
+    if decode_pairs(line, bytes, n) {
+        return Decoded::Bytes(n);
     }
-    Decoded::Bytes(n)
+    Decoded::Bad
 }
 
 // The digit of a value below 16.

@@ -11,7 +11,8 @@ use Rattle.phrases.specs.Laws.{direction-moves, port-kind-moves, maybe-classifi
 use Rattle.rows.specs.Rows.{portRow}
 use Rattle.rows.specs.Said.{Said, Rule, quiet, _⨟_, repeat, put, apart}
 use Rattle.rows.specs.States.{State, does}
-use Rattle.rows.specs.Laws.{MovesOn, moved-onward, moves-quiet, moves-put, moves-apart, moves-repeat, advances-on, does-then, does-then-at, does-on, does-off}
+use Rattle.rows.specs.Laws.{MovesOn, moved-onward, moves-quiet, moves-put, moves-apart, moves-repeat, advances-on, does-then}
+use Rattle.rows.specs.Laws.{does-then-at, does-on, does-off}
 use Rattle.properties.specs.Properties.{ofPort, maybeBlockIn}
 use Rattle.properties.specs.Laws.{maybe-block-moves}
 use Rattle.features.specs.Features.{directionOf, portHead, port, otherFeature, featureOf, feature, features}
@@ -43,7 +44,8 @@ module _ (o n : ℕ) (s : State) where
   unfolding port
   port-does d e =
       ap (λ (t : State). does (does t (quiet (the SEMICOLON))) (put (λ qs. portRow o n d qs))) (does-then s (quiet portHead) (maybeBlockIn ofPort))
-      ∙ ap (λ (t : State). does t (put (λ qs. portRow o n d qs))) (does-then s (λ ps ts. quiet portHead ps ts ⨟ maybeBlockIn ofPort) (quiet (the SEMICOLON)))
+      ∙ ap (λ (t : State). does t (put (λ qs. portRow o n d qs)))
+      (does-then s (λ ps ts. quiet portHead ps ts ⨟ maybeBlockIn ofPort) (quiet (the SEMICOLON)))
       ∙ does-then-at s (λ ps ts. quiet portHead ps ts ⨟ maybeBlockIn ofPort ⨟ quiet (the SEMICOLON)) (put (λ qs. portRow o n d qs))
       (λ ts. put (λ qs. portRow o n (directionOf (On ts)) qs)) (λ ts w. ap (λ (x : ℕ). put (λ qs. portRow o n x qs)) (e ∙ ap directionOf w))
 
@@ -57,7 +59,8 @@ module _ (o n : ℕ) (s : State) where
 
 pub feature-does : (o : ℕ) (s : State) → does (does s (quiet label)) (featureOf o (first (s .went) .start)) ≡ does s (feature o)
 unfolding feature
-feature-does o s = does-then-at s (quiet label) (featureOf o (first (s .went) .start)) (λ ts. featureOf o (head ts .start)) (λ ts w. ap (λ (x : Step). featureOf o (first x .start)) w)
+feature-does o s = does-then-at s (quiet label) (featureOf o (first (s .went) .start))
+    (λ ts. featureOf o (head ts .start)) (λ ts w. ap (λ (x : Step). featureOf o (first x .start)) w)
 
 -- ## How far they go
 
@@ -76,7 +79,8 @@ port-moves o n ps ts =
 feature-of-moves : (o n : ℕ) → MovesOn 1 (featureOf o n)
 unfolding featureOf
 feature-of-moves o n ps ts =
-    cases (λ (s : Said). Moved 1 ts (s .went)) (otherFeature (next ts)) (λ _. word-moves ts) (λ _. moved-less 1 (omega arith) (moves-apart (port o n) (port-moves o n) ps ts))
+    cases (λ (s : Said). Moved 1 ts (s .went)) (otherFeature (next ts)) (λ _. word-moves ts)
+    (λ _. moved-less 1 (omega arith) (moves-apart (port o n) (port-moves o n) ps ts))
 
 pub feature-moves : (o : ℕ) → MovesOn 3 (feature o)
 unfolding feature

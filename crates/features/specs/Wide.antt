@@ -15,7 +15,8 @@ port-wide : (o n : ℕ) → WideOn (port o n)
 unfolding port portRow
 port-wide o n ps ts =
     wide-onward _ (put (λ qs. portRow o n (directionOf (On ts)) qs))
-    (wide-onward _ (quiet (the SEMICOLON)) (wide-onward _ (maybeBlockIn ofPort) (wide-quiet portHead ps ts) (maybe-block-wide ofPort)) (wide-quiet (the SEMICOLON)))
+    (wide-onward _ (quiet (the SEMICOLON)) (wide-onward _ (maybeBlockIn ofPort) (wide-quiet portHead ps ts) (maybe-block-wide ofPort))
+    (wide-quiet (the SEMICOLON)))
     (wide-put (λ qs. portRow o n (directionOf (On ts)) qs) (λ qs. refl))
 
 feature-of-wide : (o n : ℕ) → WideOn (featureOf o n)

@@ -56,7 +56,8 @@ fn port_head(text: &[u8], went: Went) -> Went
 
 // A port of the type whose name stands at `owner`; its own name stands at `named`.
 fn port(text: &[u8], rows: &mut [usize], reading: Reading, owner: usize, named: usize) -> Reading
-    ensures { λ r. ⌜ stateOf (now (text .entry)) r (now (rows .exit)) ≡ does (stateOf (now (text .entry)) reading (now (rows .entry))) (port owner named) ⌝ }
+    ensures { λ r. ⌜ stateOf (now (text .entry)) r (now (rows .exit))
+        ≡ does (stateOf (now (text .entry)) reading (now (rows .entry))) (port owner named) ⌝ }
 {
     let went = reading.went;
     let way = direction_of(text, went);
@@ -93,7 +94,8 @@ fn feature_of(
     owner: usize,
     named: usize,
 ) -> Reading
-    ensures { λ r. ⌜ stateOf (now (text .entry)) r (now (rows .exit)) ≡ does (stateOf (now (text .entry)) reading (now (rows .entry))) (featureOf owner named) ⌝ }
+    ensures { λ r. ⌜ stateOf (now (text .entry)) r (now (rows .exit))
+        ≡ does (stateOf (now (text .entry)) reading (now (rows .entry))) (featureOf owner named) ⌝ }
 {
     let went = reading.went;
     let props = reading.props;
@@ -106,7 +108,8 @@ fn feature_of(
 
 // NAME ":" ( port | other_feature )
 fn feature(text: &[u8], rows: &mut [usize], reading: Reading, owner: usize) -> Reading
-    ensures { λ r. ⌜ stateOf (now (text .entry)) r (now (rows .exit)) ≡ does (stateOf (now (text .entry)) reading (now (rows .entry))) (feature owner) ⌝ }
+    ensures { λ r. ⌜ stateOf (now (text .entry)) r (now (rows .exit))
+        ≡ does (stateOf (now (text .entry)) reading (now (rows .entry))) (feature owner) ⌝ }
 {
     let went = reading.went;
     let named = start_of(text, went);
@@ -115,7 +118,8 @@ fn feature(text: &[u8], rows: &mut [usize], reading: Reading, owner: usize) -> R
 
 // { feature }
 pub fn features(text: &[u8], rows: &mut [usize], reading: Reading, owner: usize) -> Reading
-    ensures { λ r. ⌜ stateOf (now (text .entry)) r (now (rows .exit)) ≡ does (stateOf (now (text .entry)) reading (now (rows .entry))) (features owner) ⌝ }
+    ensures { λ r. ⌜ stateOf (now (text .entry)) r (now (rows .exit))
+        ≡ does (stateOf (now (text .entry)) reading (now (rows .entry))) (features owner) ⌝ }
 {
     let mut r = reading;
     while is_name(next_of(text, r)) {

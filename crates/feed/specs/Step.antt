@@ -1,24 +1,16 @@
--- A step of the console on a part of the output buffer: with room enough the answer is written whole, at the part's start.
+-- Lines that are cut, and a part of the output buffer: what is written at its start stands in the whole at its place.
 use Rattle.common.specs.Words.{ℕ, _+_, _-_, _≤_, arith, List, _++_, append-assoc, append-nil, _≡_, ap, length, take, drop, length-drop}
-use Rattle.common.specs.Words.{drop-of-length-le, sets, sets-eq, take-all, drop-drop, le-ltb}
+use Rattle.common.specs.Words.{drop-of-length-le, sets, sets-eq, take-all, drop-drop}
 use borrow.Rule.Slice.PartMut.{midOf, putMid}
 use Rattle.console.specs.declared.Desk.{Desk}
-use Rattle.console.specs.declared.Stepped.{Stepped}
-use Rattle.console.specs.Desk.{lineTurn, stepOf, Takes}
+use Rattle.console.specs.Desk.{lineTurn}
 use Rattle.lines.specs.Lines.{kept, cut}
-use Rattle.feed.specs.Feed.{enough}
 use Rattle.console.specs.LongLines.{line-taken}
 
 -- a line that is cut is answered as the whole line is
 pub line-cut : (d : Desk) (m line : List ℕ) → lineTurn d m (cut line) ≡ lineTurn d m line
 unfolding cut
 line-cut d m line = line-taken d m line kept (omega arith)
-
-pub step-takes :
-    (d : Desk) (m line out : List ℕ) {r : Stepped} {memory after : List ℕ} → enough ≤ length out →
-    Takes (stepOf d m line out) out r memory after → Takes (lineTurn d m line) out r memory after
-unfolding stepOf
-step-takes d m line out h t = rw (le-ltb (length out) enough h) at t
 
 -- ## A part of a buffer, from a place to the end
 

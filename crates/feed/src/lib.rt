@@ -2,14 +2,18 @@
 // answers is short. A line that has not ended goes on in the next block: its start is the carry, the first `used` bytes of `held`. What
 // `held` has behind the carry means nothing.
 //
-// A desk is 2 KB, and by value it is copied at each call: the loop keeps it, and lends and stores what frames 04 and 05 need of it.
+// A desk is 2 KB, and by value it is copied at each call: the loop keeps it, with the columns of its state beside it, and lends them.
+use calendar::Tick;
 use console::Desk;
 use console::Stepped;
 use digits::hex::BYTES;
+use mailbox::State;
+use plan::Plan;
 ghost use Rattle.common.specs.Words.{_≡_, _++_, _-_, _≤_, length, take};
 ghost use Rattle.common.specs.Stores.{part};
 ghost use Rattle.digits.specs.Hex.{mostBytes};
-ghost use Rattle.console.specs.Desk.{Takes};
+ghost use Rattle.console.specs.Desk.{Takes, withState};
+ghost use Rattle.console.specs.CallLines.{stateOf};
 ghost use Rattle.console.specs.Framing.{framedBytes};
 ghost use Rattle.console.specs.Kept.{Kept};
 ghost use Rattle.lines.specs.Lines.{kept, cut};
@@ -25,6 +29,25 @@ pub struct Fed {
     pub used: usize,
     pub next: usize,
     pub written: usize,
+}
+
+// The desk with the columns of its state put back.
+fn desk_with(
+    desk: Desk,
+    tick: Tick,
+    sent: [u64; Plan::CELLS],
+    reading: [u64; Plan::QUEUES],
+) -> Desk
+    ensures { λ r. ⌜ r ≡ withState desk (stateOf tick sent reading) ⌝ }
+{
+    console::with_state(
+        desk,
+        State {
+            tick,
+            sent,
+            reading,
+        },
+    )
 }
 
 // What a call comes to so far.
@@ -73,6 +96,10 @@ pub fn feed(
     ensures { λ r. ⌜ Kept (r .desk) ⌝ }
 {
     let mut d = desk;
+    let state = desk.state;
+    let mut tick = state.tick;
+    let mut sent = state.sent;
+    let mut reading = state.reading;
     let mut u = used;
     let mut at = from;
     let mut w: usize = 0;
@@ -80,22 +107,17 @@ pub fn feed(
         let e = lines::end_of(piece, at);
         if piece.len() <= e {
             let n = lines::keep(held, u, &piece[at..]);
-            return so_far(d, n, e, w);
+            return so_far(desk_with(d, tick, sent, reading), n, e, w);
         }
         let mut bytes = [0; BYTES];
         let n = bytes_until(held, u, piece, at, e, &mut bytes);
         let frame = frames::frame::frame_of(&bytes[..n]);
         u = 0;
         at = e + 1;
-        if console::parts::from_parts(frame) {
-            let spot = console::parts::spot_for(
-                frame,
+        if console::calls::is_call(frame) {
+            let done = console::calls::call_line(
                 d.running,
-                d.state.tick.0,
-                &d.state.sent,
-                &d.state.reading,
-            );
-            let left = console::parts::call_line(
+                true,
                 &d.plan.sends,
                 &d.plan.period,
                 &d.plan.deadline,
@@ -104,32 +126,48 @@ pub fn feed(
                 &d.plan.place,
                 d.plan.tasks,
                 d.plan.queues,
-                spot,
                 memory,
+                tick,
+                &mut sent,
+                &mut reading,
                 frame,
                 frames::frame::payload_in(&bytes[..n]),
                 &mut out[w..],
             );
-            d.state.tick.0 = left.tick;
-            console::parts::put_entry(&mut d.state.sent, frame, left.entry);
-            console::parts::put_place(&mut d.state.reading, frame, left.entry);
-            w += left.written;
+            tick = done.tick;
+            w += done.written;
         } else {
-            let s = console::act(d, memory, &bytes[..n], &mut out[w..]);
-            d = s.desk;
-            w += s.written;
+            let whole = desk_with(d, tick, sent, reading);
+            let done = console::set_table(whole, memory, frame, &mut out[w..]);
+            d = done.desk;
+            let next = d.state;
+            tick = next.tick;
+            sent = next.sent;
+            reading = next.reading;
+            w += done.written;
         }
     }
-    so_far(d, u, at, w)
+    so_far(desk_with(d, tick, sent, reading), u, at, w)
 }
 
-// The end of the input: a last line without its end is answered.
-pub fn finish(desk: Desk, memory: &mut [u8], held: &[u8], used: usize, out: &mut [u8]) -> Stepped
-    requires { ⌜ (used ≤ length (now held)) × (enough ≤ length (now out)) ⌝ }
+// The end of the input: a last line without its end is answered as if its end had come.
+pub fn finish(
+    desk: Desk,
+    memory: &mut [u8],
+    held: &mut [u8],
+    used: usize,
+    out: &mut [u8],
+) -> Stepped
+    requires { ⌜ (used ≤ kept) × (kept ≤ length (now held)) × (enough ≤ length (now out)) × Kept desk ⌝ }
     ensures { λ r. ⌜ Takes (lastTurn desk (now (memory .entry)) (take used (now (held .entry)))) (now (out .entry)) r (now (memory .exit)) (now (out .exit)) ⌝ }
 {
     if used == 0 {
         return Stepped { desk, written: 0 };
     }
-    console::step(desk, memory, &held[..used], out)
+    let done = feed(desk, memory, held, used, b"\n", 0, out);
+    let next = done.desk;
+    Stepped {
+        desk: next,
+        written: done.written,
+    }
 }

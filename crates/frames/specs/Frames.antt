@@ -1,5 +1,6 @@
 -- The frames that the console reads, "one frame a line, numbers high byte first". A frame is known by its first byte and its length.
-use Rattle.common.specs.Words.{ℕ, cond, List, ltb, eqb, length, getD, drop}
+use Rattle.common.specs.Words.{ℕ, _+_, cond, List, _≡_, ltb, eqb, length, getD, drop}
+use denote.Ref.{RefT, now}
 use Rattle.calendar.specs.Calendar.{tick}
 use Rattle.digits.specs.Numbers.{valueAt}
 use Rattle.frames.specs.declared.frame.Frame.{Frame}
@@ -25,6 +26,11 @@ sendIn bytes = cond (ltb (length bytes) 8) Frame.Bad (Frame.Send (valueAt bytes 
 
 unfoldable pub payloadIn : List ℕ → List ℕ
 payloadIn bytes = drop 8 bytes
+
+-- the payload, and where it lies: in the frame itself, at its start where the frame has none
+abbrev pub PayloadGives : RefT (List ℕ) → RefT (List ℕ) → Type 0
+PayloadGives bytes r =
+    (now r ≡ payloadIn (now bytes)) × (r .ptr ≡ cond (ltb (length (now bytes)) 8) (bytes .ptr) (bytes .ptr .0, 8 + bytes .ptr .1))
 
 -- "05: queue, tick (5)"
 abbrev pub receiveIn : List ℕ → Frame

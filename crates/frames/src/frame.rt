@@ -2,7 +2,7 @@
 use calendar::Tick;
 use digits::numbers::value_at;
 ghost use Rattle.common.specs.Words.{_≡_};
-ghost use Rattle.frames.specs.Frames.{taskIn, queueIn, goIn, sendIn, receiveIn, frameOf, payloadIn};
+ghost use Rattle.frames.specs.Frames.{taskIn, queueIn, goIn, sendIn, receiveIn, frameOf, PayloadGives};
 
 // The payload of a send is not taken out: `payload_in` shows where it lies.
 pub enum Frame {
@@ -91,7 +91,7 @@ pub fn frame_of(bytes: &[u8]) -> Frame
 
 // The payload of a send's frame, none where the frame is too short for one.
 pub fn payload_in(bytes: &[u8]) -> &[u8]
-    ensures { λ r. ⌜ now r ≡ payloadIn (now (bytes .entry)) ⌝ }
+    ensures { λ r. ⌜ PayloadGives (bytes .entry) r ⌝ }
 {
     if bytes.len() < PAYLOAD {
         return &bytes[..0];

@@ -1,9 +1,11 @@
 -- A receive, by its answer: what each of the four kinds says of the state and the memory before it.
-use Rattle.common.specs.Words.{ℕ, zero, suc, _+_, _/_, _≤_, _<_, arith, div-mul-le-self, Bool, true, false, List, _⊎_, inl, inr, _≡_, refl, sym}
+use Rattle.common.specs.Words.{ℕ, zero, suc, _+_, _/_, _≤_, _<_, arith, div-mul-le-self, Bool, true, false, List, _⊎_, inl, inr, _≡_, refl}
+use Rattle.common.specs.Words.{sym}
 use Rattle.common.specs.Words.{subst, _∙_, eqb, length, eqb-true, eqb-false, eq-eqb, le-leb}
 use Rattle.common.specs.Tests.{lt-or-le}
 use Rattle.calendar.specs.Calendar.{message, slot}
-use Rattle.model.specs.Model.{Valid, Sender, receiverPeriod, deadlineOf, number, first, last, jobFor, outdatedAt, senderOf}
+use Rattle.model.specs.Model.{Valid, Sender, receiverPeriod, deadlineOf, number, first, last, senderOf}
+use Rattle.model.specs.Source.{jobFor, outdatedAt}
 use Rattle.model.specs.Window.{last-iff, window-own, window-zero}
 use Rattle.plan.specs.Limits.{lastTick, payloadBytes, slotBytes}
 use Rattle.plan.specs.Plan.{queueAt}
@@ -43,9 +45,11 @@ answered p w q t = go (passed-or-stopped lines) (lt-or-le (lastAt p w q t) (next
     go (inr h) l b e = saying (receive-refused p w q t (h .0) (h .1)) refused
     go (inl h) (inl l) b e = let can = receive-passed (w .state .tick .0) p (w .memory) q t h in saying (receive-ends p w q t can l) (ended can l)
     go (inl h) (inr l) true e =
-        let can = receive-passed (w .state .tick .0) p (w .memory) q t h in saying (receive-finds p w q t can l ∙ rw e) (finding can l (eqb-true _ _ e))
+        let can = receive-passed (w .state .tick .0) p (w .memory) q t h in
+        saying (receive-finds p w q t can l ∙ rw e) (finding can l (eqb-true _ _ e))
     go (inl h) (inr l) false e =
-        let can = receive-passed (w .state .tick .0) p (w .memory) q t h in saying (receive-finds p w q t can l ∙ rw e) (missing can l (eqb-false _ _ e))
+        let can = receive-passed (w .state .tick .0) p (w .memory) q t h in
+        saying (receive-finds p w q t can l ∙ rw e) (missing can l (eqb-false _ _ e))
 
 -- by an equation, as theorems speak of answers
 pub answered-so : (p : Plan) (w : World) (q t : ℕ) (a : Received) → receiveSays p w q t ≡ a → Answered p w q t a
@@ -86,7 +90,8 @@ module _ {p : Plan} (sound : Sound p) {w : World} {q t n : ℕ} (k : Told p w q 
         div-mul-le-self t (receiverPeriod (queueAt p q)),
       )
 
-  pub told-outdated : (i j : ℕ) → Sender (queueAt p q) i → number (queueAt p q) i j ≡ n → t < outdatedAt (queueAt p q) (deadlineOf (queueAt p q) i j)
+  pub told-outdated : (i j : ℕ) → Sender (queueAt p q) i → number (queueAt p q) i j ≡ n →
+      t < outdatedAt (queueAt p q) (deadlineOf (queueAt p q) i j)
   unfolding outdatedAt
   told-outdated i j s e =
       let job : jobFor (queueAt p q) (deadlineOf (queueAt p q) i j) ≡ receivingJob (queueAt p q) t =
@@ -94,11 +99,16 @@ module _ {p : Plan} (sound : Sound p) {w : World} {q t n : ℕ} (k : Told p w q 
       rw job (k .can .wanted)
 
 -- what the view shows of a message
-pub shown : {p : Plan} → Sound p → (w : World) {q t : ℕ} (n : ℕ) (filler : List ℕ) → CanReceive p w q t → length filler ≡ payloadBytes →
+pub shown : {p : Plan} → Sound p → (w : World) {q t : ℕ} (n : ℕ) (filler : List ℕ) → CanReceive p w q t →
+    length filler ≡ payloadBytes →
     viewOf (Received.Message (message n) (slot (slotFor p q n))) (w .memory) filler ≡ bytes p q w n
 unfolding viewOf
 shown {p} sound w {q} {t} n filler can width =
-    rw (eq-eqb (length filler) payloadBytes width, le-leb (slotAt payloadBytes (slotFor p q n) + slotBytes) (length (w .memory)) (bytes-inside sound (length (w .memory)) q n (can .queue) (can .ground .room)))
+    rw (
+      eq-eqb (length filler) payloadBytes width,
+      le-leb (slotAt payloadBytes (slotFor p q n) + slotBytes) (length (w .memory))
+          (bytes-inside sound (length (w .memory)) q n (can .queue) (can .ground .room)),
+    )
 
 -- ## A send that is accepted comes before its message's deadline
 

@@ -3,7 +3,8 @@
 use Rattle.common.specs.Words.{ℕ, suc, _+_, _-_, _*_, _/_, _%_, _≤_, _<_, _^_, arith, mod-lt, mul-le-mul-right, div-add-mod', div-lt-iff-lt-mul}
 use Rattle.common.specs.Words.{lt-div-mul-add, ⊎-elim, _≡_}
 use Rattle.common.specs.Tests.{lt-or-le}
-use Rattle.model.specs.Model.{Queue, Valid, Sender, Fit, releaseOf, deadlineOf, number, outdatedAt}
+use Rattle.model.specs.Model.{Queue, Valid, Sender, releaseOf, deadlineOf, number}
+use Rattle.model.specs.Source.{Fit, outdatedAt}
 use Rattle.model.specs.Number.{upTo-le, number-below}
 use Rattle.model.specs.Fit.{fit-above}
 use Rattle.plan.specs.Limits.{lastTick, payloadBytes, slotBytes}
@@ -53,7 +54,8 @@ module _ {p : Plan} (sound : Sound p) where
   bytes-inside m q n h room = omega (arith, slots-apart payloadBytes (slotFor p q n) (slotsOf p) (slot-inside q n h))
 
   -- a number fits its 8 bytes
-  pub number-fits : (q i k : ℕ) → q < p .queues → Sender (queueAt p q) i → deadlineOf (queueAt p q) i k ≤ lastTick → number (queueAt p q) i k < 2 ^ 64
+  pub number-fits : (q i k : ℕ) → q < p .queues → Sender (queueAt p q) i → deadlineOf (queueAt p q) i k ≤ lastTick →
+      number (queueAt p q) i k < 2 ^ 64
   number-fits q i k h s d =
       omega (
         arith,
@@ -63,12 +65,14 @@ module _ {p : Plan} (sound : Sound p) where
       )
 
   -- of two messages of one slot, the first is outdated when the second's job is released
-  pub slot-waits : (q : ℕ) → q < p .queues → Fit (queueAt p q) (sizeAt p q) → (i k j l : ℕ) → Sender (queueAt p q) i → Sender (queueAt p q) j →
+  pub slot-waits : (q : ℕ) → q < p .queues → Fit (queueAt p q) (sizeAt p q) → (i k j l : ℕ) → Sender (queueAt p q) i →
+      Sender (queueAt p q) j →
       number (queueAt p q) i k < number (queueAt p q) j l → number (queueAt p q) i k % sizeAt p q ≡ number (queueAt p q) j l % sizeAt p q →
       outdatedAt (queueAt p q) (deadlineOf (queueAt p q) i k) ≤ releaseOf (queueAt p q) j l
   slot-waits q h fit i k j l si sj less e =
       let Q : Queue = queueAt p q in
-      fit-above Q (valid-at q h) (sizeAt p q) (number Q j l - number Q i k) (omega (arith, apart (sizeAt p q) (number Q i k) (number Q j l) e less)) fit
+      fit-above Q (valid-at q h) (sizeAt p q) (number Q j l - number Q i k)
+      (omega (arith, apart (sizeAt p q) (number Q i k) (number Q j l) e less)) fit
       i k j l si sj (omega arith)
 
 -- A sound plan whose sizes are fit.

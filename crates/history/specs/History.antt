@@ -172,7 +172,8 @@ pub record ReadToEnd (p : Plan) (m : List ℕ) (H : History) (q k : ℕ) : Type 
 
 -- a send or a receive that is not refused
 pub data Accepted (p : Plan) (w : World) : Call → Type 0 where
-  stores : {q i t n : ℕ} {payload : List ℕ} {s : Slot} → sendSays p w q i t payload ≡ Sent.Stored (message n) s → Accepted p w (send q i t payload)
+  stores : {q i t n : ℕ} {payload : List ℕ} {s : Slot} → sendSays p w q i t payload ≡ Sent.Stored (message n) s →
+      Accepted p w (send q i t payload)
   tells : {q t n : ℕ} → Tells (receiveSays p w q t) n → Accepted p w (receive q t)
   empty : {q t : ℕ} → receiveSays p w q t ≡ Received.Empty → Accepted p w (receive q t)
 

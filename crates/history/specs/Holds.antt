@@ -1,5 +1,6 @@
 -- After every history the invariant holds of every queue: from the start, which clears the slots, over each call.
-use Rattle.common.specs.Words.{ℕ, _*_, _≤_, _<_, arith, le-refl, ℕ-discrete, Bool, true, false, true≢false, List, _⊎_, inl, inr, _≡_, refl, sym, ap}
+use Rattle.common.specs.Words.{ℕ, _*_, _≤_, _<_, arith, le-refl, ℕ-discrete, Bool, true, false, true≢false, List, _⊎_, inl, inr, _≡_}
+use Rattle.common.specs.Words.{refl, sym, ap}
 use Rattle.common.specs.Words.{subst, _∙_, length, drop, length-replicate, ltb-false, not-false}
 use Rattle.plan.specs.Limits.{queueLimit, cellLimit, payloadBytes, slotBytes}
 use Rattle.plan.specs.Plan.{slotsOf}
@@ -28,7 +29,8 @@ module _ {p : Plan} {m : List ℕ} (begins : Begins p m) where
 
       go : Passed (startLines p m) ⊎ ((r : Refusal) × Stopped (startLines p m) r) → Passed (startLines p m)
       go (inl h) = h
-      go (inr h) = absurd (true≢false (ap isReady (sym (begins .ready) ∙ stopped-refused (startLines p m) (h .0) Started.Refused Started.Ready (h .1))))
+      go (inr h) = absurd (true≢false
+          (ap isReady (sym (begins .ready) ∙ stopped-refused (startLines p m) (h .0) Started.Refused Started.Ready (h .1))))
 
   pub ready-sound : soundPlan p ≡ true
   ready-sound = not-false (soundPlan p) (ready-passes .0)
@@ -60,7 +62,8 @@ module _ {p : Plan} {m : List ℕ} (begins : Begins p m) where
 
 -- ## Each call
 
-step-inv : {p : Plan} → Fitting p → {q : ℕ} {S : ℕ → List ℕ → Type 0} {w w′ : World} {c : Call} → q < p .queues → Shape p w → Inv p q S w → Step p w c w′ →
+step-inv : {p : Plan} → Fitting p → {q : ℕ} {S : ℕ → List ℕ → Type 0} {w w′ : World} {c : Call} → q < p .queues → Shape p w →
+    Inv p q S w → Step p w c w′ →
     Inv p q (λ n b. S n b ⊎ Sends p w c q n b) w′
 step-inv {p} fitting {q} {S} {w} h shape inv (sends {q = r} {i = i} {t = t} {payload = b} can) = go (ℕ-discrete r q)
   where
@@ -85,7 +88,8 @@ module _ {p : Plan} {m : List ℕ} (begins : Begins p m) where
 
 -- ## Bytes behind the last slot
 
-step-behind : {p : Plan} → Sound p → {w w′ : World} {c : Call} → Step p w c w′ → drop (slotsOf p * slotBytes) (w′ .memory) ≡ drop (slotsOf p * slotBytes) (w .memory)
+step-behind : {p : Plan} → Sound p → {w w′ : World} {c : Call} → Step p w c w′ →
+    drop (slotsOf p * slotBytes) (w′ .memory) ≡ drop (slotsOf p * slotBytes) (w .memory)
 step-behind {p} sound {w} (sends {q = q} {i = i} {t = t} {payload = b} can) =
     let n : ℕ = numberAt p w q i t in
     behind-stored payloadBytes (w .memory) b (slotFor p q n) n (can .whole) (slotsOf p) (slot-inside sound q n (can .queue))

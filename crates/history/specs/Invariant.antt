@@ -1,9 +1,11 @@
 -- What holds of each queue after every history: whatever was sent has in its slot itself or a higher number, and what a slot holds was sent.
 -- It leans on the view of one call (Steps), on the laws of slots, and on fit sizes.
-use Rattle.common.specs.Words.{ℕ, _+_, _*_, _%_, _≤_, _<_, arith, le-refl, div-mul-le-self, ℕ-discrete, List, _⊎_, inl, inr, ⊎-elim, _≡_, refl, sym}
+use Rattle.common.specs.Words.{ℕ, _+_, _*_, _%_, _≤_, _<_, arith, le-refl, div-mul-le-self, ℕ-discrete, List, _⊎_, inl, inr, ⊎-elim}
+use Rattle.common.specs.Words.{_≡_, refl, sym}
 use Rattle.common.specs.Words.{ap, subst, _∙_, length, getD, length-set, getD-set-same, getD-set-other}
 use Rattle.common.specs.Tests.{lt-or-le, having}
-use Rattle.model.specs.Model.{Queue, Valid, Sender, Fit, releaseOf, deadlineOf, number, outdatedAt}
+use Rattle.model.specs.Model.{Queue, Valid, Sender, releaseOf, deadlineOf, number}
+use Rattle.model.specs.Source.{Fit, outdatedAt}
 use Rattle.model.specs.Order.{deadline-positive}
 use Rattle.model.specs.Number.{number-inj}
 use Rattle.model.specs.Outdating.{outdated-iff, horizon-back}
@@ -79,9 +81,11 @@ step-shape shape (stays h) = shape
 
 module _ {p : Plan} {q : ℕ} {S : ℕ → List ℕ → Type 0} {w : World} where
   -- the sends of the queue's own tasks, its slots and its past are as they were
-  pub untouched : {X : ℕ → List ℕ → Type 0} {w′ : World} → ((n : ℕ) (b : List ℕ) → X n b → ⊥) → Inv p q S w → w .state .tick .0 ≤ w′ .state .tick .0 →
+  pub untouched : {X : ℕ → List ℕ → Type 0} {w′ : World} → ((n : ℕ) (b : List ℕ) → X n b → ⊥) → Inv p q S w →
+      w .state .tick .0 ≤ w′ .state .tick .0 →
       ((i : ℕ) → Sender (queueAt p q) i → getD (w′ .state .sent) (q * taskLimit + i) 0 ≡ getD (w .state .sent) (q * taskLimit + i) 0) →
-      ((n : ℕ) → held p q w′ n ≡ held p q w n) → ((n : ℕ) → bytes p q w′ n ≡ bytes p q w n) → Inv p q (λ n b. S n b ⊎ X n b) w′
+      ((n : ℕ) → held p q w′ n ≡ held p q w n) → ((n : ℕ) → bytes p q w′ n ≡ bytes p q w n) →
+      Inv p q (λ n b. S n b ⊎ X n b) w′
   untouched {X} {w′} none inv later cell number payload = record {
     origin = λ n b s. origin′ n (inv .origin n b (old n b s));
     once = λ n b c s r. inv .once n b c (old n b s) (old n c r);
@@ -130,7 +134,8 @@ module _ {p : Plan} (sound : Sound p) {w : World} (shape : Shape p w) where
 
     -- ## on another queue
 
-    other-cell : (q j : ℕ) → (r ≡ q → ⊥) → Sender (queueAt p q) j → getD (now .state .sent) (q * taskLimit + j) 0 ≡ getD (w .state .sent) (q * taskLimit + j) 0
+    other-cell : (q j : ℕ) → (r ≡ q → ⊥) → Sender (queueAt p q) j →
+        getD (now .state .sent) (q * taskLimit + j) 0 ≡ getD (w .state .sent) (q * taskLimit + j) 0
     other-cell q j d s =
         getD-set-other (w .state .sent) (r * taskLimit + i) (q * taskLimit + j) _ 0
         (λ e. d (omega (arith, can .sender .row, s .row, sound .checked .tasks-fit)))
@@ -163,13 +168,15 @@ module _ {p : Plan} (sound : Sound p) {w : World} (shape : Shape p w) where
     pub number-now : (n : ℕ) → n % sizeAt p r ≡ N % sizeAt p r → held p r now n ≡ N
     number-now n e =
         rw (slot-same n e)
-        (number-same payloadBytes (w .memory) b (slotFor p r N) N (can .whole) (bytes-inside sound (length (w .memory)) r N (can .queue) (can .ground .room))
+        (number-same payloadBytes (w .memory) b (slotFor p r N) N (can .whole)
+        (bytes-inside sound (length (w .memory)) r N (can .queue) (can .ground .room))
         (number-fits sound r i (runningJob (queueAt p r) i t) (can .queue) (can .sender) (can .deadline-within)))
 
     payload-now : (n : ℕ) → n % sizeAt p r ≡ N % sizeAt p r → bytes p r now n ≡ b
     payload-now n e =
         rw (slot-same n e)
-        (payload-same payloadBytes (w .memory) b (slotFor p r N) N (can .whole) (bytes-inside sound (length (w .memory)) r N (can .queue) (can .ground .room)))
+        (payload-same payloadBytes (w .memory) b (slotFor p r N) N (can .whole)
+        (bytes-inside sound (length (w .memory)) r N (can .queue) (can .ground .room)))
 
     number-still : (n : ℕ) → (n % sizeAt p r ≡ N % sizeAt p r → ⊥) → held p r now n ≡ held p r w n
     number-still n d = number-other payloadBytes (w .memory) b (slotFor p r N) N (can .whole) (slotFor p r n) (slot-other n d)
@@ -193,7 +200,8 @@ module _ {p : Plan} (sound : Sound p) {w : World} (shape : Shape p w) where
       where
         recorded′ : Dec (o .row ≡ i) → o .job < getD (now .state .sent) (r * taskLimit + o .row) 0
         recorded′ (yes e) = rw (e, own-cell) (omega (arith, rw e at (o .recorded), can .unsent))
-        recorded′ (no d) = rw (getD-set-other (w .state .sent) (r * taskLimit + i) (r * taskLimit + o .row) (runningJob (queueAt p r) i t + 1) 0 (λ e. d (omega arith))) (o .recorded)
+        recorded′ (no d) = rw (getD-set-other (w .state .sent) (r * taskLimit + i) (r * taskLimit + o .row) (runningJob (queueAt p r) i t + 1) 0
+            (λ e. d (omega arith))) (o .recorded)
 
     origin-now : Origin p r now N
     origin-now = record {
@@ -210,12 +218,14 @@ module _ {p : Plan} (sound : Sound p) {w : World} (shape : Shape p w) where
     unsent inv c s =
         having (inv .origin N c s)
         (λ o.
-        having (number-inj (queueAt p r) (valid-at sound r (can .queue)) (o .row) (o .job) i (runningJob (queueAt p r) i t) (o .sender) (can .sender) (o .numbered))
+        having (number-inj (queueAt p r) (valid-at sound r (can .queue)) (o .row) (o .job) i (runningJob (queueAt p r) i t) (o .sender)
+        (can .sender) (o .numbered))
         (λ e. omega (arith, rw (e .0) at (o .recorded), e .1, can .unsent)))
 
     module _ (fit : Fit (queueAt p r) (sizeAt p r)) where
       -- an older message of the same slot has a lower number: N, which is sent now, is not outdated
-      rises : {S : ℕ → List ℕ → Type 0} → Inv p r S w → (n : ℕ) (c : List ℕ) → S n c → n % sizeAt p r ≡ N % sizeAt p r → n ≤ N
+      rises : {S : ℕ → List ℕ → Type 0} → Inv p r S w → (n : ℕ) (c : List ℕ) → S n c → n % sizeAt p r ≡ N % sizeAt p r →
+          n ≤ N
       rises inv n c s e =
           ⊎-elim
           (λ (l : N < n).
@@ -264,6 +274,7 @@ module _ {p : Plan} (sound : Sound p) {w : World} (shape : Shape p w) where
           kept′ n c (inr x) (yes e) = rw (number-now n e) (omega (arith, sent-is can x .1))
           kept′ n c (inr x) (no d) = absurd (d (ap (λ (y : ℕ). y % sizeAt p r) (sent-is can x .1)))
 
-          fair′ : (n : ℕ) → Dec (n % sizeAt p r ≡ N % sizeAt p r) → 1 ≤ held p r now n → S′ (held p r now n) (bytes p r now n) × (held p r now n % sizeAt p r ≡ n % sizeAt p r)
+          fair′ : (n : ℕ) → Dec (n % sizeAt p r ≡ N % sizeAt p r) → 1 ≤ held p r now n →
+              S′ (held p r now n) (bytes p r now n) × (held p r now n % sizeAt p r ≡ n % sizeAt p r)
           fair′ n (yes e) = rw (number-now n e, payload-now n e) (λ h. (inr (accepted (send-stores p w r i t b can)), sym e))
           fair′ n (no d) = rw (number-still n d, payload-still n d) (λ h. (inl (inv .fair n h .0), inv .fair n h .1))

@@ -1,11 +1,13 @@
 -- No smaller size does: where a message's slot is asked for again before it is outdated, a history of accepted calls loses the message.
 -- The message is sent, then the one that takes its slot, and then its receiving job reads up to it.
 use Rattle.common.specs.Words.{ℕ, zero, suc, _+_, _-_, _*_, _%_, _≤_, _<_, max, arith, le-refl, add-mod-right, div-eq-of-lt-le, div-mul-le-self}
-use Rattle.common.specs.Words.{mul-le-mul-right, ℕ-discrete, List, inl, inr, ⊎-elim, _≡_, refl, sym, ap, subst, _∙_, length, getD, set, replicate}
+use Rattle.common.specs.Words.{mul-le-mul-right, ℕ-discrete, List, inl, inr, ⊎-elim, _≡_, refl, sym, ap, subst, _∙_, length, getD, set}
+use Rattle.common.specs.Words.{replicate}
 use Rattle.common.specs.Words.{length-replicate, getD-replicate, getD-set-same, getD-set-other, ne-eqb}
 use Rattle.common.specs.Tests.{lt-or-le, having}
 use Rattle.calendar.specs.Calendar.{message}
-use Rattle.model.specs.Model.{Queue, Valid, Sender, receiverPeriod, releaseOf, deadlineOf, number, first, last, jobFor, wantedUntil, outdatedAt, senderOf, hyperperiod}
+use Rattle.model.specs.Model.{Queue, Valid, Sender, receiverPeriod, releaseOf, deadlineOf, number, first, last, wantedUntil, senderOf, hyperperiod}
+use Rattle.model.specs.Source.{jobFor, outdatedAt}
 use Rattle.model.specs.Order.{period-pos}
 use Rattle.model.specs.Number.{number-iff, number-below, number-less}
 use Rattle.model.specs.Outdating.{wanted-pos, wanted-fits, job-from}
@@ -19,24 +21,13 @@ use Rattle.slots.specs.Slots.{numberIn}
 use Rattle.mailbox.specs.Calls.{found, slotFor, runningJob, receivingJob}
 use Rattle.history.specs.History.{send, receive, World, History, start, _then_, Begins, world, after, receiveSays, Sends}
 use Rattle.history.specs.History.{accepted, SentIn, Tells, stores, tells, AllAccepted}
-use Rattle.history.specs.Steps.{CanSend, CanReceive, numberAt, sentWorld, next, lastAt, readWorld, send-stores, receive-finds, after-send, after-finds, found-tells}
+use Rattle.history.specs.Steps.{CanSend, CanReceive, numberAt, sentWorld, next, lastAt, readWorld, send-stores, receive-finds, after-send}
+use Rattle.history.specs.Steps.{after-finds, found-tells}
 use Rattle.history.specs.Ground.{valid-at}
 use Rattle.history.specs.Invariant.{Shape, held, outdated-late, number-now}
 use Rattle.history.specs.Holds.{shaped}
 use Rattle.history.specs.Short.{Short, periods-fit}
-
--- From a start, sends and receives that are all accepted: message n of queue q is sent, and then a receive reports it as a gap.
-pub record Lost (p : Plan) (q : ℕ) : Type 0 where
-  pub memory : List ℕ
-  pub begins : Begins p memory
-  pub calls : History
-  pub all-accepted : AllAccepted p memory calls
-  pub n : ℕ
-  pub payload : List ℕ
-  pub sent : SentIn p memory calls q n payload
-  pub t : ℕ
-  pub row : ℕ
-  pub told : receiveSays p (world p memory calls) q t ≡ Received.Gap (message n) row
+pub use Rattle.history.specs.Smaller.{Lost}
 
 -- ## Jobs and ticks
 
@@ -62,7 +53,8 @@ later-job Q v i k l s h =
     earlier : l < k → deadlineOf Q i l < deadlineOf Q i k
     earlier b = omega (arith, mul-le-mul-right (Q .period i) b, period-pos Q v i (s .row))
 
-found-gap : (p : Plan) (m : List ℕ) (q n : ℕ) → (numberIn payloadBytes m (slotFor p q n) ≡ n → ⊥) → found p m q n ≡ Received.Gap (message n) (senderOf (queueAt p q) lastTick n)
+found-gap : (p : Plan) (m : List ℕ) (q n : ℕ) → (numberIn payloadBytes m (slotFor p q n) ≡ n → ⊥) →
+    found p m q n ≡ Received.Gap (message n) (senderOf (queueAt p q) lastTick n)
 unfolding found
 found-gap p m q n d = rw (ne-eqb (numberIn payloadBytes m (slotFor p q n)) n d)
 
@@ -73,13 +65,16 @@ abbrev reading : History → ℕ → ℕ → ℕ → History
 reading H q t zero = H
 reading H q t (suc x) = reading H q t x then receive q t
 
-module _ {p : Plan} (sound : Sound p) {m : List ℕ} (begins : Begins p m) (q : ℕ) (counted : q < p .queues) (b : List ℕ) (width : length b ≡ payloadBytes) where
+module _ {p : Plan} (sound : Sound p) {m : List ℕ} (begins : Begins p m) (q : ℕ) (counted : q < p .queues) (b : List ℕ)
+    (width : length b ≡ payloadBytes) where
   v : Valid (queueAt p q)
   v = valid-at sound q counted
 
   -- a job can send at a tick between its release and its deadline, if none later has
-  can-send-job : (H : History) (i k t : ℕ) → Sender (queueAt p q) i → world p m H .state .tick .0 ≤ t → releaseOf (queueAt p q) i k ≤ t →
-      t < deadlineOf (queueAt p q) i k → deadlineOf (queueAt p q) i k ≤ lastTick → getD (world p m H .state .sent) (q * taskLimit + i) 0 ≤ k →
+  can-send-job : (H : History) (i k t : ℕ) → Sender (queueAt p q) i → world p m H .state .tick .0 ≤ t →
+      releaseOf (queueAt p q) i k ≤ t →
+      t < deadlineOf (queueAt p q) i k → deadlineOf (queueAt p q) i k ≤ lastTick →
+      getD (world p m H .state .sent) (q * taskLimit + i) 0 ≤ k →
       CanSend p (world p m H) q i t b
   can-send-job H i k t s a c d e u =
       let j : runningJob (queueAt p q) i t ≡ k = job-at (queueAt p q) v i k t s c d in
@@ -210,14 +205,21 @@ module _ {p : Plan} (sound : Sound p) {m : List ℕ} (begins : Begins p m) (q : 
         inside : (x : ℕ) → Sender (queueAt p q) x → q * taskLimit + x < cellLimit
         inside x s = omega (arith, sound .checked .queues-fit, sound .checked .tasks-fit, s .row)
 
-        go : Dec (j ≡ i) → getD (set (replicate cellLimit 0) (q * taskLimit + i) (runningJob (queueAt p q) i t₁ + 1)) (q * taskLimit + j) 0 ≤ l
+        go : Dec (j ≡ i) → getD (set (replicate cellLimit 0) (q * taskLimit + i) (runningJob (queueAt p q) i t₁ + 1))
+            (q * taskLimit + j) 0 ≤ l
         go (yes x) =
-            let later : k < l = later-job (queueAt p q) v i k l (short .first-sender) (subst (λ (y : ℕ). n < number (queueAt p q) y l) x more-than) in
-            rw (x, getD-set-same (replicate cellLimit 0) (q * taskLimit + i) (runningJob (queueAt p q) i t₁ + 1) 0 (omega (arith, inside i (short .first-sender), length-replicate {A = ℕ} cellLimit 0)))
+            let later : k < l = later-job (queueAt p q) v i k l (short .first-sender)
+            (subst (λ (y : ℕ). n < number (queueAt p q) y l) x more-than) in
+            rw (
+              x,
+              getD-set-same (replicate cellLimit 0) (q * taskLimit + i) (runningJob (queueAt p q) i t₁ + 1) 0
+                  (omega (arith, inside i (short .first-sender), length-replicate {A = ℕ} cellLimit 0)),
+            )
             (omega (arith, first-job))
         go (no x) =
             rw (
-              getD-set-other (replicate cellLimit 0) (q * taskLimit + i) (q * taskLimit + j) (runningJob (queueAt p q) i t₁ + 1) 0 (λ y. x (omega arith)),
+              getD-set-other (replicate cellLimit 0) (q * taskLimit + i) (q * taskLimit + j) (runningJob (queueAt p q) i t₁ + 1) 0
+                  (λ y. x (omega arith)),
               getD-replicate {A = ℕ} cellLimit (q * taskLimit + j) 0 0 (inside j (short .second-sender)),
             )
             (omega arith)
@@ -280,7 +282,8 @@ module _ {p : Plan} (sound : Sound p) {m : List ℕ} (begins : Begins p m) (q : 
       not-past = omega (arith, next-is, here, ap (last (queueAt p q)) job-third, in-window .1)
 
       tells-next : Tells (receiveSays p w q t₃) (next p w q t₃)
-      tells-next = subst (λ (a : Received). Tells a (next p w q t₃)) (sym (receive-finds p w q t₃ can not-past)) (found-tells p w q (next p w q t₃))
+      tells-next = subst (λ (a : Received). Tells a (next p w q t₃)) (sym (receive-finds p w q t₃ can not-past))
+          (found-tells p w q (next p w q t₃))
 
       one-more : Shape p (after p w (receive q t₃)) → After (suc x) (after p w (receive q t₃))
       one-more s = record {
@@ -319,7 +322,8 @@ module _ {p : Plan} (sound : Sound p) {m : List ℕ} (begins : Begins p m) (q : 
         ))
 
     first-sent : SentIn p m one q n b
-    first-sent = inr (subst (λ (y : ℕ). Sends p (world p m start) (send q i t₁ b) q y b) (ap (number (queueAt p q) i) first-job) (accepted (send-stores p (world p m start) q i t₁ b can-first)))
+    first-sent = inr (subst (λ (y : ℕ). Sends p (world p m start) (send q i t₁ b) q y b) (ap (number (queueAt p q) i) first-job)
+        (accepted (send-stores p (world p m start) q i t₁ b can-first)))
 
     was-sent : (x : ℕ) → SentIn p m (reading two q t₃ x) q n b
     was-sent zero = inl first-sent

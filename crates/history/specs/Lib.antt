@@ -1,6 +1,7 @@
 -- The pages of this crate's definitions and laws.
 pub mod Types
 pub mod History
+pub mod Smaller
 pub mod Steps
 pub mod Ground
 pub mod Invariant

@@ -23,7 +23,10 @@ blank p = replicate (slotsOf p * slotBytes) 0
 pub blank-begins : (p : Plan) → soundPlan p ≡ true → Begins p (blank p)
 unfolding startAnswer
 blank-begins p sound =
-    record { ready = passed-good (startLines p (blank p)) Started.Refused Started.Ready (rw sound, (le-ltb (length (blank p)) (slotsOf p * slotBytes) (omega (arith, length-replicate {A = ℕ} (slotsOf p * slotBytes) 0)), tt)) }
+    record {
+      ready = passed-good (startLines p (blank p)) Started.Refused Started.Ready
+          (rw sound, (le-ltb (length (blank p)) (slotsOf p * slotBytes) (omega (arith, length-replicate {A = ℕ} (slotsOf p * slotBytes) 0)), tt));
+    }
 
 module _ {p : Plan} (made : Made p) where
   abbrev sound-plan : Sound p
@@ -40,5 +43,6 @@ module _ {p : Plan} (made : Made p) where
   loses-one q L h pos less =
       let small : Sound (resized p q L) = resized-sound p sound-plan q L pos (omega arith) in
       let gap : Short (queueAt p q) L = too-small (queueAt p q) (valid-at sound-plan q h) L (omega (arith, made .least q h)) in
-      loses small (blank-begins (resized p q L) (sound-iff (resized p q L) .1 small)) q h (replicate payloadBytes 0) (length-replicate {A = ℕ} payloadBytes 0)
+      loses small (blank-begins (resized p q L) (sound-iff (resized p q L) .1 small)) q h (replicate payloadBytes 0)
+      (length-replicate {A = ℕ} payloadBytes 0)
       (subst (λ (x : ℕ). Short (queueAt p q) x) (sym (resized-size p sound-plan q L h)) gap) (made .short q h)

@@ -1,6 +1,7 @@
 -- What each receiving job has read after every history: the first numbers of its window, one after the other.
 -- It leans on the view of one call and on the laws of windows; fit sizes play no part.
-use Rattle.common.specs.Words.{ℕ, zero, suc, _+_, _-_, _/_, _≤_, _<_, max, arith, le-refl, zero-add, add-zero, suc-add, add-suc, ℕ-discrete, Bool}
+use Rattle.common.specs.Words.{ℕ, zero, suc, _+_, _-_, _/_, _≤_, _<_, max, arith, le-refl, zero-add, add-zero, suc-add, add-suc, ℕ-discrete}
+use Rattle.common.specs.Words.{Bool}
 use Rattle.common.specs.Words.{true, false, cond, _&&_, List, [], _∷_, _++_, append-nil, _≡_, refl, sym, ap, subst, _∙_, eqb, length, getD}
 use Rattle.common.specs.Words.{length-append, getD-replicate, getD-set-same, getD-set-other, eq-eqb, ne-eqb}
 use Rattle.calendar.specs.Calendar.{message, slot}
@@ -12,7 +13,8 @@ use Rattle.plan.specs.Plan.{queueAt}
 use Rattle.history.specs.Types.{Plan, Received}
 use Rattle.slots.specs.Slots.{numberIn}
 use Rattle.mailbox.specs.Calls.{found, slotFor, receivingJob}
-use Rattle.history.specs.History.{Call, receive, World, History, start, _then_, Begins, world, receiveSays, Reading, readings, reads, readBy, numbers, upFrom}
+use Rattle.history.specs.History.{Call, receive, World, History, start, _then_, Begins, world, receiveSays, Reading, readings, reads}
+use Rattle.history.specs.History.{readBy, numbers, upFrom}
 use Rattle.history.specs.Steps.{CanReceive, next, lastAt, readWorld, receive-finds, receive-ends, Step, sends, finds, ends, stays, step}
 use Rattle.history.specs.Ground.{div-mono}
 use Rattle.history.specs.Invariant.{Shape}
@@ -50,7 +52,9 @@ module _ (p : Plan) (w : World) where
   unfolding found
   found-numbers q n m filler = go (eqb (numberIn payloadBytes (w .memory) (slotFor p q n)) n)
     where
-      go : (b : Bool) → numbers (readings (cond b (Received.Message (message n) (slot (slotFor p q n))) (Received.Gap (message n) (senderOf (queueAt p q) lastTick n))) m filler) ≡ n ∷ []
+      go : (b : Bool) → numbers (readings
+          (cond b (Received.Message (message n) (slot (slotFor p q n))) (Received.Gap (message n) (senderOf (queueAt p q) lastTick n))) m filler)
+          ≡ n ∷ []
       go true = refl
       go false = refl
 
@@ -58,7 +62,8 @@ module _ (p : Plan) (w : World) where
   numbers-found : (filler : List ℕ) (q t : ℕ) → CanReceive p w q t → next p w q t ≤ lastAt p w q t →
       numbers (readings (receiveSays p w q t) (w .memory) filler) ≡ next p w q t ∷ []
   numbers-found filler q t h l =
-      ap (λ (a : Received). numbers (readings a (w .memory) filler)) (receive-finds p w q t h l) ∙ found-numbers q (next p w q t) (w .memory) filler
+      ap (λ (a : Received). numbers (readings a (w .memory) filler)) (receive-finds p w q t h l)
+      ∙ found-numbers q (next p w q t) (w .memory) filler
 
   read-other : (filler : List ℕ) (r t q k : ℕ) → (r ≡ q → ⊥) → reads p filler w (receive r t) q k ≡ []
   read-other filler r t q k d = rw (ne-eqb r q d)
@@ -102,11 +107,13 @@ module _ (p : Plan) (q : ℕ) (v : Valid (queueAt p q)) where
   idle {w = w} {w′ = w′} o l e = record {
     in-a-row = o .in-a-row;
     no-further = o .no-further;
-    goes-on = λ k h. rw e (o .goes-on k (omega (arith, div-mono (receiverPeriod (queueAt p q)) (w .state .tick .0) (w′ .state .tick .0) every-pos l)));
+    goes-on = λ k h. rw e (o .goes-on k
+        (omega (arith, div-mono (receiverPeriod (queueAt p q)) (w .state .tick .0) (w′ .state .tick .0) every-pos l)));
   }
 
   -- a call that gives it the next number
-  goes : {R : ℕ → List ℕ} {w : World} → Order p q R w → (t : ℕ) → q < length (w .state .reading) → w .state .tick .0 ≤ t → next p w q t ≤ lastAt p w q t →
+  goes : {R : ℕ → List ℕ} {w : World} → Order p q R w → (t : ℕ) → q < length (w .state .reading) → w .state .tick .0 ≤ t →
+      next p w q t ≤ lastAt p w q t →
       Order p q (λ k. addIf (ℕ-discrete (receivingJob (queueAt p q) t) k) (next p w q t) (R k)) (readWorld p w q t)
   goes {R} {w} o t inside h l = record {
     in-a-row = λ k. row k (ℕ-discrete (receivingJob (queueAt p q) t) k);
@@ -132,7 +139,8 @@ module _ (p : Plan) (q : ℕ) (v : Valid (queueAt p q)) where
       row : (k : ℕ) (d : Dec (job ≡ k)) → addIf d n (R k) ≡ upFrom (first (queueAt p q) k) (length (addIf d n (R k)))
       row k (yes e) =
           rw (length-snoc (R k) n)
-          (ap (λ (l : List ℕ). l ++ (n ∷ [])) (o .in-a-row k) ∙ ap (λ (j : ℕ). upFrom (first (queueAt p q) k) (length (R k)) ++ (j ∷ [])) (here k e)
+          (ap (λ (l : List ℕ). l ++ (n ∷ [])) (o .in-a-row k)
+          ∙ ap (λ (j : ℕ). upFrom (first (queueAt p q) k) (length (R k)) ++ (j ∷ [])) (here k e)
           ∙ up-snoc (first (queueAt p q) k) (length (R k)))
       row k (no d) = o .in-a-row k
 
@@ -146,16 +154,19 @@ module _ (p : Plan) (q : ℕ) (v : Valid (queueAt p q)) where
           let later : job < k = omega arith in
           omega (arith, l, window-after job k later, o .goes-on k (still k b))
 
-  step-order : {R : ℕ → List ℕ} {w w′ : World} {c : Call} (filler : List ℕ) → q < queueLimit → Shape p w → Order p q R w → Step p w c w′ →
+  step-order : {R : ℕ → List ℕ} {w w′ : World} {c : Call} (filler : List ℕ) → q < queueLimit → Shape p w → Order p q R w →
+      Step p w c w′ →
       Order p q (λ k. R k ++ numbers (reads p filler w c q k)) w′
   step-order {R} {w} filler h shape o (sends can) = order-same (λ k. append-nil (R k)) (idle o (can .in-order) refl)
   step-order {R} {w} filler h shape o (finds {q = r} {t = t} can l) = go (ℕ-discrete r q)
     where
       Goal : ℕ → Type 0
-      Goal x = CanReceive p w x t → next p w x t ≤ lastAt p w x t → Order p q (λ k. R k ++ numbers (reads p filler w (receive x t) q k)) (readWorld p w x t)
+      Goal x = CanReceive p w x t → next p w x t ≤ lastAt p w x t →
+          Order p q (λ k. R k ++ numbers (reads p filler w (receive x t) q k)) (readWorld p w x t)
 
       own : Goal q
-      own can′ l′ = order-same (λ k. read-own p w filler q t k (R k) can′ l′) (goes o t (omega (arith, shape .places)) (can′ .in-order) l′)
+      own can′ l′ = order-same (λ k. read-own p w filler q t k (R k) can′ l′)
+          (goes o t (omega (arith, shape .places)) (can′ .in-order) l′)
 
       go : Dec (r ≡ q) → Order p q (λ k. R k ++ numbers (reads p filler w (receive r t) q k)) (readWorld p w r t)
       go (yes e) = subst Goal (sym e) own can l
@@ -174,7 +185,8 @@ module _ (p : Plan) (q : ℕ) (v : Valid (queueAt p q)) where
   step-order {R} {w} filler h shape o (stays quiet) =
       order-same (λ k. rw (quiet .no-reading filler q k) (append-nil (R k))) (idle o (le-refl _) refl)
 
-  pub order : {m : List ℕ} → Begins p m → (filler : List ℕ) → q < queueLimit → (H : History) → Order p q (λ k. numbers (readBy p m filler H q k)) (world p m H)
+  pub order : {m : List ℕ} → Begins p m → (filler : List ℕ) → q < queueLimit → (H : History) →
+      Order p q (λ k. numbers (readBy p m filler H q k)) (world p m H)
   order {m} begins filler h start = record {
     in-a-row = λ k. refl;
     no-further = λ k. omega (arith, last-mono (queueAt p q) v (k - 1) k (omega arith));

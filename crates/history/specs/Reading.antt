@@ -1,5 +1,6 @@
 -- What a receive's answer says of the calls before it and after it. `Theorems` states what comes of it.
-use Rattle.common.specs.Words.{ℕ, suc, _+_, _-_, _*_, _/_, _≤_, _<_, arith, le-refl, div-mul-le-self, ℕ-discrete, List, _++_, inl, inr, _≡_, refl}
+use Rattle.common.specs.Words.{ℕ, suc, _+_, _-_, _*_, _/_, _≤_, _<_, arith, le-refl, div-mul-le-self, ℕ-discrete, List, _++_, inl, inr}
+use Rattle.common.specs.Words.{_≡_, refl}
 use Rattle.common.specs.Words.{sym, ap, subst, _∙_, length, getD, set, getD-set-same, getD-set-other}
 use lib.Arith.{lt-of-le-ne}
 use Rattle.common.specs.Tests.{having}
@@ -21,7 +22,8 @@ use Rattle.history.specs.Ground.{valid-at, Fitting, slot-waits, div-mono
 use Rattle.history.specs.Invariant.{Shape, Inv, held, bytes, unsent, sent-is, tick-mono}
 use Rattle.history.specs.Holds.{holds, shaped}
 use Rattle.history.specs.Order.{Order, order, every-pos, up-append, length-up}
-use Rattle.history.specs.Answers.{Answered, finding, missing, ended, answered, answered-so, Told, told, told-window, told-deadline, told-outdated, shown, in-time}
+use Rattle.history.specs.Answers.{Answered, finding, missing, ended, answered, answered-so, Told, told, told-window, told-deadline}
+use Rattle.history.specs.Answers.{told-outdated, shown, in-time}
 
 -- ## A send is its job's
 
@@ -74,7 +76,8 @@ module _ {p : Plan} {m : List ℕ} (fitting : Fitting p) (begins : Begins p m) w
   -- ## A gap only where that job sent nothing, before or after
 
   -- a message that was sent before: its slot would hold it, or one that cannot have been sent yet
-  missed : {S : ℕ → List ℕ → Type 0} {w : World} {q t n row : ℕ} → Inv p q S w → Answered p w q t (Received.Gap (message n) row) → (b : List ℕ) → S n b → ⊥
+  missed : {S : ℕ → List ℕ → Type 0} {w : World} {q t n row : ℕ} → Inv p q S w → Answered p w q t (Received.Gap (message n) row) →
+      (b : List ℕ) → S n b → ⊥
   missed {S} {w} {q} {t} inv (missing h l e) b s =
       let n : ℕ = next p w q t in
       let above : n < held p q w n = lt-of-le-ne (inv .kept n b s) (λ x. e (sym x)) in
@@ -93,7 +96,8 @@ module _ {p : Plan} {m : List ℕ} (fitting : Fitting p) (begins : Begins p m) w
         told-outdated (fitting .sound) (told {w = w} (missing h l e) ofGap) (o .row) (o .job) (o .sender) (o .numbered),
       ))))
 
-  pub gap-never-sent : (H K : History) (q t n row : ℕ) → receiveSays p (world p m H) q t ≡ Received.Gap (message n) row → (H then receive q t) ⊑ K →
+  pub gap-never-sent : (H K : History) (q t n row : ℕ) → receiveSays p (world p m H) q t ≡ Received.Gap (message n) row →
+      (H then receive q t) ⊑ K →
       (b : List ℕ) → SentIn p m K q n b → ⊥
   gap-never-sent H K q t n row e r = later r
     where
@@ -131,7 +135,8 @@ module _ {p : Plan} {m : List ℕ} (sound : Sound p) (begins : Begins p m) where
       Sender (queueAt p q) (senderOf (queueAt p q) lastTick n)
       × (number (queueAt p q) (senderOf (queueAt p q) lastTick n) (jobOf (queueAt p q) lastTick n) ≡ n)
   told-sender w q t n k =
-      having (way-there (queueAt p q) (valid-at sound q (k .can .queue)) n lastTick (omega (arith, told-window sound k .0)) early) (λ y. (y .0, y .1))
+      having (way-there (queueAt p q) (valid-at sound q (k .can .queue)) n lastTick (omega (arith, told-window sound k .0)) early)
+      (λ y. (y .0, y .1))
     where
       R : ℕ
       R = receiverPeriod (queueAt p q)
@@ -225,7 +230,8 @@ module _ {p : Plan} {m : List ℕ} (sound : Sound p) (begins : Begins p m) where
 
   -- ## Over the whole history
 
-  step-place : {q : ℕ} {w w′ : World} {c : Call} → q < queueLimit → Shape p w → Step p w c w′ → getD (w .state .reading) q 0 ≤ getD (w′ .state .reading) q 0
+  step-place : {q : ℕ} {w w′ : World} {c : Call} → q < queueLimit → Shape p w → Step p w c w′ →
+      getD (w .state .reading) q 0 ≤ getD (w′ .state .reading) q 0
   step-place h shape (sends can) = le-refl _
   step-place {q} {w} h shape (finds {q = r} {t = t} can l) = go (ℕ-discrete r q)
     where
@@ -237,7 +243,8 @@ module _ {p : Plan} {m : List ℕ} (sound : Sound p) (begins : Begins p m) where
   step-place h shape (ends can l) = le-refl _
   step-place h shape (stays quiet) = le-refl _
 
-  place-mono : (q : ℕ) {H K : History} → q < queueLimit → H ⊑ K → getD (world p m H .state .reading) q 0 ≤ getD (world p m K .state .reading) q 0
+  place-mono : (q : ℕ) {H K : History} → q < queueLimit → H ⊑ K →
+      getD (world p m H .state .reading) q 0 ≤ getD (world p m K .state .reading) q 0
   place-mono q h same = le-refl _
   place-mono q h (more {K = K} {c = c} r) = omega (arith, place-mono q h r, step-place h (shaped begins K) (step p (world p m K) c))
 
@@ -249,5 +256,6 @@ module _ {p : Plan} {m : List ℕ} (sound : Sound p) (begins : Begins p m) where
       let k′ = told (answered p (world p m K) q u) s′ in
       let moved : getD (world p m (H then receive q t) .state .reading) q 0 ≡ next p (world p m H) q t + 1 =
       ap (λ (x : World). getD (x .state .reading) q 0) (after-finds p (world p m H) q t (k .can) (rw (← k .is-next) (k .not-past)))
-      ∙ getD-set-same (world p m H .state .reading) q (next p (world p m H) q t + 1) 0 (omega (arith, shaped begins H .places, k .can .queue, sound .checked .queues-fit)) in
+      ∙ getD-set-same (world p m H .state .reading) q (next p (world p m H) q t + 1) 0
+      (omega (arith, shaped begins H .places, k .can .queue, sound .checked .queues-fit)) in
       omega (arith, k .is-next, moved, place-mono q (omega (arith, k .can .queue, sound .checked .queues-fit)) r, k′ .is-next)

@@ -1,28 +1,12 @@
--- A plan with another size for one queue, "places reckoned anew". It is sound where the new size is at least 1 and no greater than the old one.
-use Rattle.common.specs.Words.{ℕ, _≤_, _<_, arith, ℕ-discrete, cond, _≡_, refl, sym, _∙_, ltb, eqb, lt-ltb, eq-eqb, ne-eqb}
-use Rattle.common.specs.Table.{table, table-at}
+-- A plan with another size for one queue is sound where the new size is at least 1 and no greater than the old one.
+use Rattle.common.specs.Words.{ℕ, _≤_, _<_, arith, ℕ-discrete, _≡_, refl, sym, _∙_, ltb, lt-ltb, eq-eqb, ne-eqb}
+use Rattle.common.specs.Table.{table-at}
 use Rattle.common.specs.Totals.{only, sum, sum-ext, sum-le}
 use Rattle.plan.specs.Limits.{queueLimit}
 use Rattle.plan.specs.Plan.{sizeAt, placeAt, slotsOf}
 use Rattle.plan.specs.Sound.{Checked, Sound}
 use Rattle.plan.specs.declared.Plan.{Plan}
-
--- the sizes, with L for queue q's
-abbrev pub sizeWith : Plan → ℕ → ℕ → ℕ → ℕ
-sizeWith p q L r = cond (eqb r q) L (sizeAt p r)
-
--- Queue q has L slots, and each queue begins where the sizes before it end; whatever is beyond the counted queues is as in a plan we make.
-abbrev pub resized : Plan → ℕ → ℕ → Plan
-resized p q L = record {
-  tasks = p .tasks;
-  queues = p .queues;
-  period = p .period;
-  deadline = p .deadline;
-  receiver = p .receiver;
-  sends = p .sends;
-  size = table (sizeWith p q L) queueLimit;
-  place = table (λ r. only (ltb r (p .queues)) (sum (sizeWith p q L) r)) queueLimit;
-}
+pub use Rattle.history.specs.Smaller.{sizeWith, resized}
 
 module _ (p : Plan) (sound : Sound p) (q L : ℕ) where
   in-range : (r : ℕ) → r < p .queues → r < queueLimit

@@ -1,11 +1,13 @@
 -- Where a size is below the least fit one, some message's slot is asked for again before that message is outdated; and such a pair lies
 -- within the first hyperperiods, so that its ticks are small. It leans on the model's `slots`, the greatest need of the second hyperperiod.
-use Rattle.common.specs.Words.{ℕ, zero, suc, _+_, _-_, _*_, _/_, _≤_, _<_, arith, lt-of-not-le, not-le-of-lt, mul-le-mul-right, Bool, true, false}
+use Rattle.common.specs.Words.{ℕ, zero, suc, _+_, _-_, _*_, _/_, _≤_, _<_, arith, lt-of-not-le, not-le-of-lt, mul-le-mul-right, Bool, true}
+use Rattle.common.specs.Words.{false}
 use Rattle.common.specs.Words.{⊎-elim, _≡_, refl}
 use Rattle.common.specs.Tests.{lt-or-le, having}
 use Rattle.common.specs.Totals.{only, most}
-use Rattle.model.specs.Model.{Queue, Valid, Sender, CommonMultiple, receiverPeriod, releaseOf, deadlineOf, number}
-use Rattle.model.specs.Model.{outdatedAt, need, rowSlots, slotsOver, slots, hyperperiod}
+use Rattle.model.specs.Model.{Queue, Valid, Sender, receiverPeriod, releaseOf, deadlineOf, number}
+use Rattle.model.specs.Model.{need, rowSlots, slotsOver, slots, hyperperiod}
+use Rattle.model.specs.Source.{CommonMultiple, outdatedAt}
 use Rattle.model.specs.Order.{period-pos}
 use Rattle.model.specs.Number.{number-onto}
 use Rattle.model.specs.Fit.{outdated-counts}

@@ -11,9 +11,11 @@ use Rattle.plan.specs.Limits.{lastTick, payloadBytes}
 use Rattle.plan.specs.Plan.{queueAt}
 use Rattle.slots.specs.Slots.{numberIn, stored}
 use Rattle.running.specs.Calls as running
-use Rattle.mailbox.specs.Calls.{lastSent, sendLines, receiveLines, sendAnswer, sendState, sendMemory, look, found, receiveState, sentState, readPast}
-use Rattle.mailbox.specs.Calls.{movedTo, steppedOn, runningNumber, receivingJob, nextNumber, slotIn, slotFor}
-use Rattle.plan.specs.Verdicts.{Passed, Stopped, passed-good, stopped-refused, passed-or-stopped}
+use Rattle.mailbox.specs.Calls.{lastSent, sendLines, receiveLines, sendAnswer, sendState, sendMemory, look, found, receiveState}
+use Rattle.mailbox.specs.Calls.{steppedOn, runningNumber, receivingJob, nextNumber, slotIn, slotFor}
+use Rattle.mailbox.specs.Outcomes.{sentState, readPast, movedTo, state-clear}
+use Rattle.mailbox.specs.Refused.{send-keeps}
+use Rattle.plan.specs.Verdicts.{Passed, Stopped, passed-good, passed-clear, stopped-refused, passed-or-stopped}
 use Rattle.judge.specs.Accepted.{SendTaken, send-passed, send-passes, ReceiveTaken, receive-passed, receive-passes}
 use Rattle.history.specs.History.{Call, send, receive, askNumber, askWayBack, askWindow, askView, World, sendSays, receiveSays, after, Sends}
 use Rattle.history.specs.History.{accepted, reads, readings, Tells, ofMessage, ofGap, Accepted, stores, tells, empty}
@@ -69,7 +71,8 @@ module _ (p : Plan) (w : World) where
   receive-ends q t h l =
       passed-good (receiveLines (w .state) p (w .memory) q t) Received.Refused _ (receive-passes h) ∙ rw (lt-ltb (lastAt q t) (next q t) l)
 
-  pub receive-refused : (q t : ℕ) (r : Refusal) → Stopped (receiveLines (w .state) p (w .memory) q t) r → receiveSays p w q t ≡ Received.Refused r
+  pub receive-refused : (q t : ℕ) (r : Refusal) → Stopped (receiveLines (w .state) p (w .memory) q t) r →
+      receiveSays p w q t ≡ Received.Refused r
   unfolding running.look
   receive-refused q t r h = stopped-refused (receiveLines (w .state) p (w .memory) q t) r Received.Refused _ h
 
@@ -101,18 +104,20 @@ neither-arm false x = refl
 
 module _ (p : Plan) (w : World) where
   -- what a call leaves, given the state and the memory that it leaves
-  leaves : {s : State} {m : List ℕ} {s′ : State} {m′ : List ℕ} → s ≡ s′ → m ≡ m′ → _≡_ {A = World} (record { state = s; memory = m }) (record { state = s′; memory = m′ })
-  leaves {s} {m} {s′} {m′} e d = ap (λ (x : State). record { state = x; memory = m }) e ∙ ap (λ (y : List ℕ). record { state = s′; memory = y }) d
+  leaves : {s : State} {m : List ℕ} {s′ : State} {m′ : List ℕ} → s ≡ s′ → m ≡ m′ →
+      _≡_ {A = World} (record { state = s; memory = m }) (record { state = s′; memory = m′ })
+  leaves {s} {m} {s′} {m′} e d = ap (λ (x : State). record { state = x; memory = m }) e
+      ∙ ap (λ (y : List ℕ). record { state = s′; memory = y }) d
 
   pub after-send : (q i t : ℕ) (payload : List ℕ) → CanSend p w q i t payload → after p w (send q i t payload) ≡ sentWorld p w q i t payload
-  unfolding after sendState running.sendMemory
+  unfolding after running.sendMemory
   after-send q i t payload h =
       let lines : List Line = sendLines (w .state) p (w .memory) q i t payload in
       let passed : Passed lines = send-passes h in
-      leaves (passed-good lines (λ r. w .state) _ passed) (passed-good lines (λ r. w .memory) _ passed)
+      leaves (state-clear (w .state) p (w .memory) q i t payload (passed-clear lines passed)) (passed-good lines (λ r. w .memory) _ passed)
 
   send-step : (q i t : ℕ) (payload : List ℕ) → Step p w (send q i t payload) (after p w (send q i t payload))
-  unfolding after sendState running.sendMemory running.sendAnswer
+  unfolding after running.sendAnswer
   send-step q i t payload = go (passed-or-stopped (sendLines (w .state) p (w .memory) q i t payload))
     where
       lines : List Line
@@ -123,11 +128,13 @@ module _ (p : Plan) (w : World) where
           let can : CanSend p w q i t payload = send-passed (w .state .tick .0) (lastSent (w .state) q i) p (w .memory) q i t payload h in
           subst (λ (x : World). Step p w (send q i t payload) x) (sym (after-send q i t payload can)) (sends can)
       go (inr h) =
-          subst (λ (x : World). Step p w (send q i t payload) x)
-          (sym (leaves (stopped-refused lines (h .0) (λ r. w .state) _ (h .1)) (stopped-refused lines (h .0) (λ r. w .memory) _ (h .1))))
-          (stays (record { no-send = silent (h .0) (stopped-refused lines (h .0) Sent.Refused _ (h .1)); no-reading = λ filler q k. refl }))
+          let e : sendSays p w q i t payload ≡ Sent.Refused (h .0) = stopped-refused lines (h .0) Sent.Refused _ (h .1) in
+          let k = send-keeps (w .state) p (w .memory) q i t payload (h .0) e in
+          subst (λ (x : World). Step p w (send q i t payload) x) (sym (leaves (k .0) (k .1)))
+          (stays (record { no-send = silent (h .0) e; no-reading = λ filler q k. refl }))
         where
-          silent : (r : Refusal) → sendSays p w q i t payload ≡ Sent.Refused r → (q′ n : ℕ) (payload′ : List ℕ) → Sends p w (send q i t payload) q′ n payload′ → ⊥
+          silent : (r : Refusal) → sendSays p w q i t payload ≡ Sent.Refused r → (q′ n : ℕ) (payload′ : List ℕ) →
+              Sends p w (send q i t payload) q′ n payload′ → ⊥
           silent r e q′ n payload′ (accepted d) = stored-or-refused _ _ r (sym d ∙ e)
 
   -- a receive that comes to number n, whether its slot holds n or not
@@ -135,7 +142,9 @@ module _ (p : Plan) (w : World) where
   unfolding found
   found-read s q t n = go (eqb (numberIn payloadBytes (w .memory) (slotFor p q n)) n)
     where
-      go : (b : Bool) → steppedOn s q t (cond b (Received.Message (message n) (slot (slotFor p q n))) (Received.Gap (message n) (senderOf (queueAt p q) lastTick n))) ≡ readPast s q t n
+      go : (b : Bool) → steppedOn s q t
+          (cond b (Received.Message (message n) (slot (slotFor p q n))) (Received.Gap (message n) (senderOf (queueAt p q) lastTick n)))
+          ≡ readPast s q t n
       go true = refl
       go false = refl
 
@@ -144,12 +153,14 @@ module _ (p : Plan) (w : World) where
   unfolding found
   found-tells q n = go (eqb (numberIn payloadBytes (w .memory) (slotFor p q n)) n)
     where
-      go : (b : Bool) → Tells (cond b (Received.Message (message n) (slot (slotFor p q n))) (Received.Gap (message n) (senderOf (queueAt p q) lastTick n))) n
+      go : (b : Bool) → Tells (cond b (Received.Message (message n) (slot (slotFor p q n)))
+          (Received.Gap (message n) (senderOf (queueAt p q) lastTick n))) n
       go true = ofMessage
       go false = ofGap
 
   -- a receive leaves what its answer says
-  by-answer : (q t : ℕ) (a : Received) → receiveSays p w q t ≡ a → after p w (receive q t) ≡ record { state = steppedOn (w .state) q t a; memory = w .memory }
+  by-answer : (q t : ℕ) (a : Received) → receiveSays p w q t ≡ a →
+      after p w (receive q t) ≡ record { state = steppedOn (w .state) q t a; memory = w .memory }
   unfolding after receiveState
   by-answer q t a e = leaves (ap (steppedOn (w .state) q t) e) refl
 
@@ -175,20 +186,24 @@ module _ (p : Plan) (w : World) where
       leaving : {x : World} → after p w (receive q t) ≡ x → Step p w (receive q t) x → Step p w (receive q t) (after p w (receive q t))
       leaving e s = subst (λ (x : World). Step p w (receive q t) x) (sym e) s
 
-      quiet : (r : Refusal) → receiveSays p w q t ≡ Received.Refused r → (filler : List ℕ) (q′ k : ℕ) → reads p filler w (receive q t) q′ k ≡ []
+      quiet : (r : Refusal) → receiveSays p w q t ≡ Received.Refused r → (filler : List ℕ) (q′ k : ℕ) →
+          reads p filler w (receive q t) q′ k ≡ []
       quiet r e filler q′ k =
           ap (λ (a : Received). cond (eqb q q′ && eqb (receivingJob (queueAt p q′) t) k) (readings a (w .memory) filler) []) e
           ∙ neither-arm (eqb q q′ && eqb (receivingJob (queueAt p q′) t) k) []
 
       go : Passed lines ⊎ ((r : Refusal) × Stopped lines r) → (lastAt p w q t < next p w q t) ⊎ (next p w q t ≤ lastAt p w q t) →
           Step p w (receive q t) (after p w (receive q t))
-      go (inl h) (inl l) = let can : CanReceive p w q t = receive-passed (w .state .tick .0) p (w .memory) q t h in leaving (after-ends q t can l) (ends can l)
-      go (inl h) (inr l) = let can : CanReceive p w q t = receive-passed (w .state .tick .0) p (w .memory) q t h in leaving (after-finds q t can l) (finds can l)
+      go (inl h) (inl l) = let can : CanReceive p w q t = receive-passed (w .state .tick .0) p (w .memory) q t h in
+          leaving (after-ends q t can l) (ends can l)
+      go (inl h) (inr l) = let can : CanReceive p w q t = receive-passed (w .state .tick .0) p (w .memory) q t h in
+          leaving (after-finds q t can l) (finds can l)
       go (inr h) l =
           let e : receiveSays p w q t ≡ Received.Refused (h .0) = receive-refused p w q t (h .0) (h .1) in
           leaving (by-answer q t (Received.Refused (h .0)) e) (stays (record { no-send = λ r n payload s. elim s [ ]; no-reading = quiet (h .0) e }))
 
-  looks : (c : Call) → after p w c ≡ w → ((q n : ℕ) (payload : List ℕ) → Sends p w c q n payload → ⊥) → ((filler : List ℕ) (q k : ℕ) → reads p filler w c q k ≡ []) → Step p w c (after p w c)
+  looks : (c : Call) → after p w c ≡ w → ((q n : ℕ) (payload : List ℕ) → Sends p w c q n payload → ⊥) →
+      ((filler : List ℕ) (q k : ℕ) → reads p filler w c q k ≡ []) → Step p w c (after p w c)
   looks c e a b = subst (λ (x : World). Step p w c x) (sym e) (stays (record { no-send = a; no-reading = b }))
 
   pub step : (c : Call) → Step p w c (after p w c)

@@ -3,12 +3,13 @@
 -- job sent nothing. A queue's slot count is the least possible: with any smaller one (at least 1), places reckoned anew, some sequence of
 -- accepted sends and receives from a start reports a sent message as a gap."
 --
--- How to read it. `Made p`: p is a plan we made, which every accepted planning gives (`accepted-made` of planning). `Begins p m`: a start with p on memory m is accepted, whatever bytes lie in m. A history
--- is the calls after that start, of any kind and with any arguments; `world p m H` is the state and memory that the calls H leave, by the
--- definitions that the contracts of start, send and receive cite. `receiveSays p (world p m H) q t` is what a receive on queue q at
--- tick t is answered when it comes after H. A statement over every H is so one over every receive of every sequence of calls; `H ⊑ K` says
--- that K begins with H. `SentIn p m H q n b`: some send on queue q in H, with payload b, was accepted as message n. All definitions
--- stand in History; each statement here is proved in the file that its proof names, and nothing is assumed.
+-- How to read it. `Made p`: p is a plan we made, which every accepted planning gives (`accepted-made` of planning). `Begins p m`: a start
+-- with p on memory m is accepted, whatever bytes lie in m. A history is the calls after that start, of any kind and with any arguments;
+-- `world p m H` is the state and memory that the calls H leave, by the definitions that the contracts of start, send and receive cite.
+-- `receiveSays p (world p m H) q t` is what a receive on queue q at tick t is answered when it comes after H. A statement over every H is
+-- so one over every receive of every sequence of calls; `H ⊑ K` says that K begins with H. `SentIn p m H q n b`: some send on queue q in
+-- H, with payload b, was accepted as message n. All definitions stand in History and Smaller; each statement here is proved in the file
+-- that its proof names, and nothing is assumed.
 use Rattle.common.specs.Words.{ℕ, _-_, _*_, _≤_, _<_, List, _∷_, _++_, _↔_, _≡_, subst, length, drop}
 use Rattle.calendar.specs.Calendar.{message, slot}
 use Rattle.history.specs.Types.{Slot, Plan, Sent, Received}
@@ -17,12 +18,12 @@ use Rattle.plan.specs.Limits.{lastTick, payloadBytes, slotBytes}
 use Rattle.plan.specs.Plan.{queueAt, sizeAt, slotsOf}
 use Rattle.mailbox.specs.Calls.{runningJob, receivingJob, slotFor}
 use Rattle.running.specs.View.{viewOf}
-use Rattle.history.specs.History.{Call, receive, World, History, start, _then_, _⊑_, Begins, world, after, sendSays, receiveSays, history, goOn}
+use Rattle.history.specs.History.{Call, receive, World, History, start, _then_, _⊑_, Begins, world, after, sendSays, receiveSays, history}
+use Rattle.history.specs.History.{goOn}
 use Rattle.history.specs.History.{Sends, SentIn, Tells, readBy, numbers, windowNumbers, AllFair, Among, ReadToEnd, Accepted}
 use Rattle.history.specs.Made.{made-fits, loses-one}
-use Rattle.planning.specs.Accepted.{Made}
-use Rattle.history.specs.Resized.{resized}
-use Rattle.history.specs.Least.{Lost}
+use Rattle.planning.specs.Planning.{Made}
+use Rattle.history.specs.Smaller.{resized, Lost}
 use Rattle.history.specs.Lists.{goOn-append, goes-on}
 use Rattle.history.specs.Steps
 use Rattle.history.specs.Holds
@@ -76,8 +77,8 @@ module _ {p : Plan} (made : Made p) {m : List ℕ} (begins : Begins p m) where
   -- ## "and a gap only where that job sent nothing"
 
   -- A receive answered with a gap at n: no send on this queue is accepted as message n, before it or ever after it.
-  pub gap-never-sent : (H K : History) (q t n row : ℕ) → receiveSays p (world p m H) q t ≡ Received.Gap (message n) row → (H then receive q t) ⊑ K →
-      (b : List ℕ) → ¬ SentIn p m K q n b
+  pub gap-never-sent : (H K : History) (q t n row : ℕ) → receiveSays p (world p m H) q t ≡ Received.Gap (message n) row →
+      (H then receive q t) ⊑ K → (b : List ℕ) → ¬ SentIn p m K q n b
   gap-never-sent = Reading.gap-never-sent (made-fits made) begins
 
   -- The row that it names is n's sender: the one that the way back answers, whose job has the number n.
@@ -86,7 +87,8 @@ module _ {p : Plan} (made : Made p) {m : List ℕ} (begins : Begins p m) where
   gap-names-sender = Reading.gap-names-sender (made-fits made .sound) begins
 
   -- The same of a history that is given as a list of calls.
-  pub gap-never-sent-in-list : (before later : List Call) (q t n row : ℕ) → receiveSays p (world p m (history before)) q t ≡ Received.Gap (message n) row →
+  pub gap-never-sent-in-list : (before later : List Call) (q t n row : ℕ) →
+      receiveSays p (world p m (history before)) q t ≡ Received.Gap (message n) row →
       (b : List ℕ) → ¬ SentIn p m (history (before ++ receive q t ∷ later)) q n b
   gap-never-sent-in-list before later q t n row e b s =
       gap-never-sent (history before) (goOn (history before) (receive q t ∷ later)) q t n row e (goes-on (history before then receive q t) later) b
@@ -139,7 +141,8 @@ others-change-nothing = Steps.others-change-nothing
 
 -- Two histories on one plan, on any memories, with the same messages sent on queue q, in whatever order and at whatever ticks, and with
 -- whatever other calls between them: a job of q's receiver that read to its end in both has read the same, answer by answer and byte by byte.
-pub same-readings : {p : Plan} (made : Made p) {m m′ : List ℕ} → Begins p m → Begins p m′ → (H K : History) (q k : ℕ) (filler : List ℕ) →
+pub same-readings : {p : Plan} (made : Made p) {m m′ : List ℕ} → Begins p m → Begins p m′ →
+    (H K : History) (q k : ℕ) (filler : List ℕ) →
     length filler ≡ payloadBytes → ((n : ℕ) (b : List ℕ) → SentIn p m H q n b ↔ SentIn p m′ K q n b) →
     ReadToEnd p m H q k → ReadToEnd p m′ K q k → readBy p m filler H q k ≡ readBy p m′ filler K q k
 same-readings made = Same.same-readings (made-fits made)

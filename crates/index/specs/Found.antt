@@ -57,6 +57,7 @@ found-first k [] i d l e = absurd (omega arith)
 found-first k (x ∷ xs) zero d l e = rw (means-same x k e) (omega arith, omega arith)
 found-first k (x ∷ xs) (suc i) d l e = go (sameMeaning x k) (found k xs) (found-first k xs i d (omega arith) e)
   where
-    go : (s : Bool) (m : ℕ) → (0 < m) × (m ≤ i + 1) → (0 < cond s 1 (cond (eqb m 0) 0 (suc m))) × (cond s 1 (cond (eqb m 0) 0 (suc m)) ≤ suc i + 1)
+    go : (s : Bool) (m : ℕ) → (0 < m) × (m ≤ i + 1) → (0 < cond s 1 (cond (eqb m 0) 0 (suc m)))
+        × (cond s 1 (cond (eqb m 0) 0 (suc m)) ≤ suc i + 1)
     go true m h = (omega arith, omega arith)
     go false m h = rw (ne-eqb m 0 (λ x. omega arith)) (omega arith, omega arith)

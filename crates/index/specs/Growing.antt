@@ -1,6 +1,8 @@
 -- How a tree grows: with no key it is sound, and it stays so when a key is entered where the search for it ended.
-use Rattle.common.specs.Words.{ℕ, zero, suc, _+_, _-_, _*_, _/_, _%_, _<_, _≤_, arith, add-one, Bool, true, false, cond, _&&_, List, [], _∷_, _++_, _≡_, refl, ap, _∙_}
-use Rattle.common.specs.Words.{eqb, eq-eqb, ne-eqb, eqb-true, eqb-false, length, length-append, getD, List·getD-append, getD-at, pos-of-ne-zero, _⊎_, inl, inr, ⊎-elim}
+use Rattle.common.specs.Words.{ℕ, zero, suc, _+_, _-_, _*_, _/_, _%_, _<_, _≤_, arith, add-one, Bool, true, false, cond}
+use Rattle.common.specs.Words.{_&&_, List, [], _∷_, _++_, _≡_, refl, ap, _∙_}
+use Rattle.common.specs.Words.{eqb, eq-eqb, ne-eqb, eqb-true, eqb-false, length, length-append, getD, List·getD-append, getD-at}
+use Rattle.common.specs.Words.{pos-of-ne-zero, _⊎_, inl, inr, ⊎-elim}
 use Rattle.common.specs.Words.{set, length-set, getD-set-same, getD-set-other}
 use Rattle.common.specs.Tests.{lt-or-le, true-or-false}
 use mathlib.Core.Bool.{and-false}
@@ -64,7 +66,8 @@ module _ (t : List ℕ) (n z : ℕ) (room : 2 * n + 4 ≤ length t) (low : z < 2
       (lt-or-le s (2 * n + 3))
 
 -- the tree and the keys with key y entered at slot z, whatever that slot holds
-module _ (t : List ℕ) (keys : List Meaning) (y : Meaning) (z : ℕ) (x : Sound t keys) (room : 2 * length keys + 4 ≤ length t) (low : z < 2 * length keys + 2) where
+module _ (t : List ℕ) (keys : List Meaning) (y : Meaning) (z : ℕ) (x : Sound t keys)
+    (room : 2 * length keys + 4 ≤ length t) (low : z < 2 * length keys + 2) where
   abbrev n : ℕ
   n = length keys
 
@@ -85,12 +88,14 @@ module _ (t : List ℕ) (keys : List Meaning) (y : Meaning) (z : ℕ) (x : Sound
   key-old e l = List·getD-append keys (y ∷ []) nothing e l
 
   -- a search that came to a free slot
-  free-other : (k : Meaning) (f s h : ℕ) → s < 2 * n + 2 → getD t s 0 ≡ 0 → (s ≡ z → ⊥) → getD then (walkBy then more k f s h) 0 ≡ 0
+  free-other : (k : Meaning) (f s h : ℕ) → s < 2 * n + 2 → getD t s 0 ≡ 0 →
+      (s ≡ z → ⊥) → getD then (walkBy then more k f s h) 0 ≡ 0
   free-other k f s h l e o =
       let w : getD then s 0 ≡ 0 = entered-other t n z room low s l o ∙ e in
       rw (walk-free then more k f s h w) w
 
-  free-linked : (k : Meaning) (f h : ℕ) → 1 < f → getD t z 0 ≡ 0 → getD then (walkBy then more k f z h) 0 ≡ cond (sameMeaning y k) (n + 1) 0
+  free-linked : (k : Meaning) (f h : ℕ) → 1 < f → getD t z 0 ≡ 0 →
+      getD then (walkBy then more k f z h) 0 ≡ cond (sameMeaning y k) (n + 1) 0
   free-linked k f h g e = go (sameMeaning y k) refl
     where
       here : getD then z 0 ≡ n + 1
@@ -107,19 +112,22 @@ module _ (t : List ℕ) (keys : List Meaning) (y : Meaning) (z : ℕ) (x : Sound
           (rw (walk-free then more k (f - 1) (2 * (n + 1) + h % 2) (h / 2) c) c)
 
   -- a search after entering, by where it ended before: two turns more are enough
-  grown : (k : Meaning) (f s h : ℕ) → s < 2 * n + 2 → 2 * n + 2 ≤ s + f → getD then (walkBy then more k (f + 2) s h) 0 ≡ held k (walkBy t keys k f s h)
+  grown : (k : Meaning) (f s h : ℕ) → s < 2 * n + 2 → 2 * n + 2 ≤ s + f →
+      getD then (walkBy then more k (f + 2) s h) 0 ≡ held k (walkBy t keys k f s h)
   grown k zero s h l g = absurd (omega arith)
   grown k (suc f) s h l g =
       go (true-or-false (eqb (getD t s 0) 0)) (true-or-false (eqb s z)) (true-or-false (sameMeaning (getD keys (getD t s 0 - 1) nothing) k))
       (λ a. grown k f (2 * getD t s 0 + h % 2) (h / 2) (omega (arith, x .within s l)) (omega (arith, x .rises s l a)))
     where
-      key-here : (getD t s 0 ≡ 0 → ⊥) → sameMeaning (getD more (getD t s 0 - 1) nothing) k ≡ sameMeaning (getD keys (getD t s 0 - 1) nothing) k
+      key-here : (getD t s 0 ≡ 0 → ⊥) → sameMeaning (getD more (getD t s 0 - 1) nothing) k
+          ≡ sameMeaning (getD keys (getD t s 0 - 1) nothing) k
       key-here o = ap (λ (m : Meaning). sameMeaning m k) (key-old (getD t s 0 - 1) (omega (arith, x .within s l, pos-of-ne-zero o)))
 
       go : (eqb (getD t s 0) 0 ≡ true) ⊎ (eqb (getD t s 0) 0 ≡ false) → (eqb s z ≡ true) ⊎ (eqb s z ≡ false) →
           (sameMeaning (getD keys (getD t s 0 - 1) nothing) k ≡ true) ⊎ (sameMeaning (getD keys (getD t s 0 - 1) nothing) k ≡ false) →
           ((getD t s 0 ≡ 0 → ⊥) →
-          getD then (walkBy then more k (f + 2) (2 * getD t s 0 + h % 2) (h / 2)) 0 ≡ held k (walkBy t keys k f (2 * getD t s 0 + h % 2) (h / 2))) →
+          getD then (walkBy then more k (f + 2) (2 * getD t s 0 + h % 2) (h / 2)) 0
+          ≡ held k (walkBy t keys k f (2 * getD t s 0 + h % 2) (h / 2))) →
           getD then (walkBy then more k (suc f + 2) s h) 0 ≡ held k (walkBy t keys k (suc f) s h)
       go (inl a) (inl b) c on =
           let e = eqb-true (getD t s 0) 0 a in
@@ -137,11 +145,18 @@ module _ (t : List ℕ) (keys : List Meaning) (y : Meaning) (z : ℕ) (x : Sound
           let e = entered-held t n z room low s l o in
           let p : suc f + 2 - 1 ≡ f + 2 = omega arith in
           let q : suc f - 1 ≡ f = omega arith in
-          rw (walk-on t keys k (suc f) s h (omega arith) o c, walk-on then more k (suc f + 2) s h (omega arith) (rw e o) (rw e (key-here o ∙ c)), e, p, q)
+          rw (
+            walk-on t keys k (suc f) s h (omega arith) o c,
+            walk-on then more k (suc f + 2) s h (omega arith) (rw e o) (rw e (key-here o ∙ c)),
+            e,
+            p,
+            q,
+          )
           (on o)
 
   -- what holds of a free slot, of one that holds the new entry and of one as it was holds of each
-  slot-then : (P : ℕ → Type 0) (s : ℕ) → s < 2 * n + 4 → P 0 → (s < 2 * n + 2 → P (n + 1)) → (s < 2 * n + 2 → P (getD t s 0)) → P (getD then s 0)
+  slot-then : (P : ℕ → Type 0) (s : ℕ) → s < 2 * n + 4 → P 0 → (s < 2 * n + 2 → P (n + 1)) →
+      (s < 2 * n + 2 → P (getD t s 0)) → P (getD then s 0)
   slot-then P s l free new old = go (lt-or-le s (2 * n + 2)) (true-or-false (eqb s z))
     where
       go : (s < 2 * n + 2) ⊎ (2 * n + 2 ≤ s) → (eqb s z ≡ true) ⊎ (eqb s z ≡ false) → P (getD then s 0)
@@ -162,7 +177,8 @@ module _ (t : List ℕ) (keys : List Meaning) (y : Meaning) (x : Sound t keys) (
       go false e = and-false (eqb (walk t keys k) (walk t keys y))
 
   then-finds : (k : Meaning) →
-      getD (entered t (length keys) (walk t keys y)) (walk (entered t (length keys) (walk t keys y)) (keys ++ (y ∷ [])) k) 0 ≡ found k (keys ++ (y ∷ []))
+      getD (entered t (length keys) (walk t keys y)) (walk (entered t (length keys) (walk t keys y)) (keys ++ (y ∷ [])) k) 0
+      ≡ found k (keys ++ (y ∷ []))
   unfolding walk
   then-finds k =
       let z = walk t keys y in
@@ -177,7 +193,8 @@ module _ (t : List ℕ) (keys : List Meaning) (y : Meaning) (x : Sound t keys) (
       let n : length (keys ++ (y ∷ [])) ≡ length keys + 1 = length-append keys (y ∷ []) in
       record {
         rises = λ s l.
-            slot-then t keys y z x room low (λ (v : ℕ). (v ≡ 0 → ⊥) → s < 2 * v) s (omega arith) (λ o. absurd (o refl)) (λ g o. omega arith)
+            slot-then t keys y z x room low (λ (v : ℕ). (v ≡ 0 → ⊥) → s < 2 * v) s
+            (omega arith) (λ o. absurd (o refl)) (λ g o. omega arith)
             (λ g o. x .rises s g o);
         within = λ s l.
             slot-then t keys y z x room low (λ (v : ℕ). v ≤ length (keys ++ (y ∷ []))) s (omega arith) (omega arith) (λ g. omega arith)

@@ -1,5 +1,6 @@
 -- Laws of rows in memory and of their keys, and how a dictionary grows row by row.
-use Rattle.common.specs.Words.{ℕ, zero, suc, _+_, _-_, _*_, _/_, _%_, _<_, _≤_, arith, true, false, List, [], _∷_, _++_, _≡_, refl, sym, ap, _∙_}
+use Rattle.common.specs.Words.{ℕ, zero, suc, _+_, _-_, _*_, _/_, _%_, _<_, _≤_, arith, true, false, List}
+use Rattle.common.specs.Words.{[], _∷_, _++_, _≡_, refl, sym, ap, _∙_}
 use Rattle.common.specs.Words.{length, take, drop, drop-drop, getD, getD-take, getD-drop, set, length-set, getD-set-same, getD-set-other}
 use Rattle.rows.specs.Rows.{Row, rowWords}
 use Rattle.keys.specs.Keys.{Meaning, meant, sameMeaning}
@@ -38,7 +39,8 @@ rows-more (suc n) m =
 pub column-at : (m : List ℕ) (k c : ℕ) → c < rowWords → column (rowAt m k) c ≡ getD m (rowWords * k + c) 0
 column-at m k c l = getD-take rowWords (drop (rowWords * k) m) c 0 l ∙ getD-drop (rowWords * k) m c 0
 
-pub rows-column : (n : ℕ) (m : List ℕ) (k c : ℕ) → k < n → c < rowWords → getD (getD (rowsIn n m) k []) c 0 ≡ getD m (rowWords * k + c) 0
+pub rows-column : (n : ℕ) (m : List ℕ) (k c : ℕ) → k < n → c < rowWords →
+    getD (getD (rowsIn n m) k []) c 0 ≡ getD m (rowWords * k + c) 0
 rows-column n m k c l g = rw (row-in n m k l) (column-at m k c g)
 
 -- ## Keys of rows
@@ -68,7 +70,8 @@ key-of p role [] k l = absurd (omega arith)
 key-of p role (row ∷ rows) zero l = refl
 key-of p role (row ∷ rows) (suc k) l = key-of p role rows k (omega arith)
 
-pub key-in : (p : List ℕ) (role n : ℕ) (m : List ℕ) (k : ℕ) → k < n → getD (keysOf p role (rowsIn n m)) k nothing ≡ meant p (keyBy role (rowAt m k))
+pub key-in : (p : List ℕ) (role n : ℕ) (m : List ℕ) (k : ℕ) → k < n →
+    getD (keysOf p role (rowsIn n m)) k nothing ≡ meant p (keyBy role (rowAt m k))
 key-in p role n m k l =
     key-of p role (rowsIn n m) k (omega (arith, rows-length n m)) ∙ ap (λ (row : Row). meant p (keyBy role row)) (row-in n m k l)
 
@@ -115,7 +118,8 @@ indexed-more p role rows tree n x a b c =
     }
 
 -- it depends on nothing but these lists
-pub indexed-same : {p q : List ℕ} {role : ℕ} {rows others tree other : List ℕ} {count : ℕ} → p ≡ q → rows ≡ others → tree ≡ other →
+pub indexed-same : {p q : List ℕ} {role : ℕ} {rows others tree other : List ℕ} {count : ℕ} →
+    p ≡ q → rows ≡ others → tree ≡ other →
     Indexed p role rows tree count → Indexed q role others other count
 indexed-same e f g x = rw (← e, ← f, ← g) x
 
@@ -131,7 +135,8 @@ module _ {p : List ℕ} {role : ℕ} {rows tree : List ℕ} {count : ℕ} (x : I
   key-there : 0 < e → getD (keysOf p role (rowsIn count rows)) (getD tree s 0 - 1) nothing ≡ meant p (keyBy role (rowAt rows (e - 1)))
   key-there l = rw (← entry) (key-in p role count rows (e - 1) (omega (arith, entry-within)))
 
-  pub search-here : 0 < e → sameMeaning (meant p (keyBy role (rowAt rows (e - 1)))) k ≡ true → s ≡ walk tree (keysOf p role (rowsIn count rows)) k
+  pub search-here : 0 < e → sameMeaning (meant p (keyBy role (rowAt rows (e - 1)))) k ≡ true →
+      s ≡ walk tree (keysOf p role (rowsIn count rows)) k
   search-here l m = left-here tree (keysOf p role (rowsIn count rows)) k s h left (rw (key-there l) m)
 
   pub search-on : 0 < e → sameMeaning (meant p (keyBy role (rowAt rows (e - 1)))) k ≡ false →

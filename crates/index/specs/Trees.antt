@@ -1,6 +1,7 @@
 -- A tree over the bits of keys' hashes, in memory. Entry e is key number e, counted from 1; slots 2e and 2e + 1 hold its children, slot 0 the
 -- first entry of all, slot 1 nothing, and 0 says that a slot is free.
-use Rattle.common.specs.Words.{ℕ, zero, suc, _+_, _-_, _*_, _/_, _%_, _<_, _≤_, arith, Bool, true, false, cond, List, [], _≡_, refl, sym, _∙_}
+use Rattle.common.specs.Words.{ℕ, zero, suc, _+_, _-_, _*_, _/_, _%_, _<_, _≤_, arith, Bool, true, false}
+use Rattle.common.specs.Words.{cond, List, [], _≡_, refl, sym, _∙_}
 use Rattle.common.specs.Words.{eqb, ne-eqb, length, getD, set}
 use Rattle.keys.specs.Keys.{Meaning, meaning, sameMeaning, hashOf}
 use Rattle.index.specs.Found.{found}
@@ -95,7 +96,8 @@ module _ (t : List ℕ) (keys : List Meaning) (k : Meaning) where
   pub left-here : (s h : ℕ) → Left t keys k s h → sameMeaning (getD keys (getD t s 0 - 1) nothing) k ≡ true → s ≡ walk t keys k
   left-here s h x e = sym (walk-here t keys k (x .turns) s h e) ∙ x .ends
 
-  pub left-on : (s h : ℕ) → Left t keys k s h → Sound t keys → (getD t s 0 ≡ 0 → ⊥) → sameMeaning (getD keys (getD t s 0 - 1) nothing) k ≡ false →
+  pub left-on : (s h : ℕ) → Left t keys k s h → Sound t keys → (getD t s 0 ≡ 0 → ⊥) →
+      sameMeaning (getD keys (getD t s 0 - 1) nothing) k ≡ false →
       Left t keys k (2 * getD t s 0 + h % 2) (h / 2)
   left-on s h x y n e =
       let low = y .within s (x .inside) in

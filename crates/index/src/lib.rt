@@ -117,7 +117,8 @@ fn wide(entry: u32) -> usize
 // The slot where a search ends: it holds the key's entry, or it is free.
 fn slot_of(text: &[u8], rows: &[usize], tree: &[u32], role: usize, count: usize, key: Key) -> usize
     requires { ⌜ Indexed (now text) role (now rows) (now tree) count ⌝ }
-    ensures { λ r. ⌜ (r ≡ walk (now (tree .entry)) (keysOf (now (text .entry)) role (rowsIn count (now (rows .entry)))) (meant (now (text .entry)) key))
+    ensures { λ r. ⌜ (r ≡ walk (now (tree .entry)) (keysOf (now (text .entry)) role (rowsIn count (now (rows .entry))))
+        (meant (now (text .entry)) key))
         × (r < 2 * count + 2) ⌝ }
 {
     let mut slot: usize = 0;

@@ -71,6 +71,9 @@ pub connected-fits : (p : Plan) → soundPlan p ≡ true → (q i : ℕ) {a : Bo
 connected-fits p s q i e h =
     let x = connected-iff p q i .0 (passed e h) in sender-fits (usable (sound-iff p .0 s) q (x .0)) (x .1)
 
+pub connected-counted : (p : Plan) → soundPlan p ≡ true → (q i : ℕ) {a : Bool} → a ≡ connected p q i → not a ≡ false → q < queueLimit
+connected-counted p s q i e h = usable (sound-iff p .0 s) q (connected-iff p q i .0 (passed e h) .0) .queue-fits
+
 -- ## 7 and 8
 
 pub record Ground (p : Plan) (m : List ℕ) : Type 0 where
@@ -92,7 +95,7 @@ ground-clear p m e h = ground-passed p m (clear-passed (startLines p m) (sym e �
 
 -- ## Send
 
-pub record SendTaken (before sent : ℕ) (p : Plan) (m : List ℕ) (q i t : ℕ) (payload : List ℕ) : Type 0 where
+pub record SendTaken (before earliest : ℕ) (p : Plan) (m : List ℕ) (q i t : ℕ) (payload : List ℕ) : Type 0 where
   pub ground : Ground p m
   pub whole : length payload ≡ payloadBytes
   pub queue : q < p .queues
@@ -101,11 +104,11 @@ pub record SendTaken (before sent : ℕ) (p : Plan) (m : List ℕ) (q i t : ℕ)
   pub deadline-within : runningDeadline (queueAt p q) i t ≤ lastTick
   pub in-order : before ≤ t
   pub running : t < runningDeadline (queueAt p q) i t
-  pub unsent : sent ≤ runningJob (queueAt p q) i t
+  pub unsent : earliest ≤ runningJob (queueAt p q) i t
 
-pub send-passed : (before sent : ℕ) (p : Plan) (m : List ℕ) (q i t : ℕ) (payload : List ℕ) → Passed (sendLines before sent p m q i t payload) →
-    SendTaken before sent p m q i t payload
-send-passed before sent p m q i t payload h =
+pub send-passed : (before unsent : ℕ) (p : Plan) (m : List ℕ) (q i t : ℕ) (payload : List ℕ) → Passed (sendLines before unsent p m q i t payload) →
+    SendTaken before unsent p m q i t payload
+send-passed before unsent p m q i t payload h =
     let g = h .1 .1 in
     let c = connected-iff p q i .0 (not-false (connected p q i) (g .1 .0)) in
     let l = g .1 .1 in
@@ -119,24 +122,24 @@ send-passed before sent p m q i t payload h =
       deadline-within = ltb-false lastTick d (or-right (ltb lastTick t) (ltb lastTick d) (l .0));
       in-order = ltb-false t before (l .1 .0);
       running = leb-false d t (l .1 .1 .0);
-      unsent = ltb-false (runningJob (queueAt p q) i t) sent (l .1 .1 .1 .0);
+      unsent = ltb-false (runningJob (queueAt p q) i t) unsent (l .1 .1 .1 .0);
     }
 
-pub send-passes : {before sent : ℕ} {p : Plan} {m : List ℕ} {q i t : ℕ} {payload : List ℕ} → SendTaken before sent p m q i t payload →
-    Passed (sendLines before sent p m q i t payload)
-send-passes {before} {sent} {p} {m} {q} {i} {t} {payload} h =
+pub send-passes : {before unsent : ℕ} {p : Plan} {m : List ℕ} {q i t : ℕ} {payload : List ℕ} → SendTaken before unsent p m q i t payload →
+    Passed (sendLines before unsent p m q i t payload)
+send-passes {before} {unsent} {p} {m} {q} {i} {t} {payload} h =
     let eleven : (ltb lastTick t || ltb lastTick (runningDeadline (queueAt p q) i t)) ≡ false =
     rw (le-ltb lastTick t (h .tick-within), le-ltb lastTick (runningDeadline (queueAt p q) i t) (h .deadline-within)) in
-    let lines : Passed (runningLines before sent (queueAt p q .period i) (queueAt p q .deadline i) t) =
+    let lines : Passed (runningLines before unsent (queueAt p q .period i) (queueAt p q .deadline i) t) =
     (eleven, (le-ltb _ _ (h .in-order), (lt-leb _ _ (h .running), (le-ltb _ _ (h .unsent), tt)))) in
     let nine : not (connected p q i) ≡ false = rw (connected-iff p q i .1 (h .queue, h .sender)) in
     let fourteen : not (eqb (length payload) payloadBytes) ≡ false = rw (eq-eqb (length payload) payloadBytes (h .whole)) in
     (seven (h .ground), (le-ltb _ _ (h .ground .room), (fourteen, (nine, lines))))
 
-pub send-taken : (before sent : ℕ) (p : Plan) (m : List ℕ) (q i t : ℕ) (payload : List ℕ) {v : Verdict} →
-    v ≡ verdict (sendLines before sent p m q i t payload) → v ≡ Verdict.Clear → SendTaken before sent p m q i t payload
-send-taken before sent p m q i t payload e f =
-    send-passed before sent p m q i t payload (clear-passed (sendLines before sent p m q i t payload) (sym e ∙ f))
+pub send-taken : (before unsent : ℕ) (p : Plan) (m : List ℕ) (q i t : ℕ) (payload : List ℕ) {v : Verdict} →
+    v ≡ verdict (sendLines before unsent p m q i t payload) → v ≡ Verdict.Clear → SendTaken before unsent p m q i t payload
+send-taken before unsent p m q i t payload e f =
+    send-passed before unsent p m q i t payload (clear-passed (sendLines before unsent p m q i t payload) (sym e ∙ f))
 
 -- ## Receive
 

@@ -1,14 +1,15 @@
 -- Which lines of the table of refusals each running call tests, in document 01's order: "Running calls test 7, 8, 14, 9, 11, 10, 12, 13,
--- as far as each applies". Of the state the lines see two numbers: `before`, its tick, and `sent`, the job after the last one that the
+-- as far as each applies". Of the state the lines see two numbers: `before`, its tick, and `unsent`, the job after the last one that the
 -- task sent into the queue.
-use Rattle.common.specs.Words.{ℕ, _*_, _/_, Bool, not, _||_, List, [], _∷_, leb, ltb, eqb, length}
+use Rattle.common.specs.Words.{ℕ, _+_, _*_, _/_, Bool, not, _||_, List, [], _∷_, leb, ltb, eqb, length, getD}
 use Rattle.model.specs.Model.{Queue, due, receiverPeriod, deadlineOf, wantedFor}
-use Rattle.plan.specs.Limits.{lastTick, payloadBytes, slotBytes}
+use Rattle.plan.specs.Limits.{taskLimit, lastTick, payloadBytes, slotBytes}
 use Rattle.plan.specs.Plan.{queueAt, slotsOf}
 use Rattle.plan.specs.Refusals.{Line, _gives_, unnamed}
 use Rattle.plan.specs.Rules.{soundPlan, connected}
 use Rattle.plan.specs.declared.Plan.{Plan}
-use Rattle.plan.specs.declared.refusal.Rule.the-variants.{UnsoundPlan, ShortMemory, NoSuchSender, TickBeforeState, PastLastTick, JobOver, SentAlready, PayloadLength}
+use Rattle.plan.specs.declared.refusal.Rule.the-variants.{UnsoundPlan, ShortMemory, NoSuchSender, TickBeforeState, PastLastTick}
+use Rattle.plan.specs.declared.refusal.Rule.the-variants.{JobOver, SentAlready, PayloadLength}
 
 -- 7 and 8, which every running call tests first
 abbrev pub groundLines : Plan → List ℕ → List Line → List Line
@@ -29,9 +30,13 @@ ending P after t = due P after (t / P)
 abbrev pub runningDeadline : Queue → ℕ → ℕ → ℕ
 runningDeadline q i t = deadlineOf q i (runningJob q i t)
 
+-- of a state's column of jobs, the one of queue q and task i
+abbrev pub unsentAt : List ℕ → ℕ → ℕ → ℕ
+unsentAt sent q i = getD sent (q * taskLimit + i) 0
+
 -- "a recorded send of this job or a later one counts as sent"
 abbrev pub sentAlready : ℕ → ℕ → Bool
-sentAlready sent k = ltb k sent
+sentAlready unsent k = ltb k unsent
 
 -- ## Start: 7, 8
 
@@ -42,27 +47,27 @@ startLines p m = groundLines p m []
 
 -- 11, 10, 12, 13, of a sender with period P and deadline D
 abbrev pub runningLines : ℕ → ℕ → ℕ → ℕ → ℕ → List Line
-runningLines before sent P D t =
+runningLines before unsent P D t =
     (ltb lastTick t || ltb lastTick (ending P D t)) gives unnamed PastLastTick
     ∷ ltb t before gives unnamed TickBeforeState
     ∷ leb (ending P D t) t gives unnamed JobOver
-    ∷ sentAlready sent (t / P) gives unnamed SentAlready
+    ∷ sentAlready unsent (t / P) gives unnamed SentAlready
     ∷ []
 
 abbrev pub sendLines : ℕ → ℕ → Plan → List ℕ → ℕ → ℕ → ℕ → List ℕ → List Line
-sendLines before sent p m q i t payload =
+sendLines before unsent p m q i t payload =
     groundLines p m
     (not (eqb (length payload) payloadBytes) gives unnamed PayloadLength
     ∷ not (connected p q i) gives unnamed NoSuchSender
-    ∷ runningLines before sent (queueAt p q .period i) (queueAt p q .deadline i) t)
+    ∷ runningLines before unsent (queueAt p q .period i) (queueAt p q .deadline i) t)
 
 -- ## Receive: 7, 8, 9, 11, 10, 12
 
 -- 11, 10, 12, of a receiver with period P, whose job wants its messages for so many ticks
 abbrev pub wantingLines : ℕ → ℕ → ℕ → ℕ → List Line
-wantingLines since P wanted t =
+wantingLines before P wanted t =
     ltb lastTick t gives unnamed PastLastTick
-    ∷ ltb t since gives unnamed TickBeforeState
+    ∷ ltb t before gives unnamed TickBeforeState
     ∷ leb (ending P wanted t) t gives unnamed JobOver
     ∷ []
 

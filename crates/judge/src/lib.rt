@@ -1,7 +1,8 @@
-// The tests of the running calls behind rule 7, in the order in which document 01 has them: the first that fails says the refusal. They
-// are inner functions: rule 7 is the caller's, since a caller that keeps its plan needs to test it only once. What is reckoned for a
-// test fits its type, because the tests before it have passed. What sends and receives ask is lent the columns of a plan, all of them, because
-// the contract is about the plan that they make (`lentPlan`).
+// The tests of the running calls, in the order in which document 01 has them: the first that fails says the refusal. They are inner
+// functions: whether the plan is sound (rule 7) is the caller's to say, since a caller that keeps its plan needs to test it only once.
+// What is reckoned for a test fits its type, because the tests before it have passed. What sends and receives ask is lent the columns of a
+// plan, all of them, because the contract is about the plan that they make (`lentPlan`), and the column of a state that the test looks at.
+use calendar::Job;
 use calendar::Tick;
 use plan::Plan;
 use plan::refusal::Refusal;
@@ -15,7 +16,7 @@ ghost use Rattle.plan.specs.Plan.{lentPlan};
 ghost use Rattle.plan.specs.Rules.{soundPlan};
 ghost use Rattle.plan.specs.Verdicts.{verdict};
 ghost use Rattle.plan.specs.declared.refusal.Verdict.{Verdict};
-ghost use Rattle.judge.specs.Lines.{ending, startLines, runningLines, sendLines, wantingLines, receiveLines};
+ghost use Rattle.judge.specs.Lines.{ending, unsentAt, startLines, runningLines, sendLines, wantingLines, receiveLines};
 
 // None of the running calls' refusals names a row.
 fn refused(rule: Rule) -> Verdict
@@ -70,10 +71,10 @@ fn end_of_job(period: u64, after: u64, at: Tick) -> Tick
     calendar::deadline_of(period, after, job)
 }
 
-// Rules 11, 10, 12, 13 of a sender: `last` is the state's tick, and `sent` the job after the last one that it sent.
-fn judge_running(period: u64, deadline: u64, at: Tick, last: Tick, sent: u64) -> Verdict
+// Rules 11, 10, 12, 13 of a sender: `before` is the state's tick, and `unsent` the job after the last one that it sent.
+fn judge_running(period: u64, deadline: u64, at: Tick, before: Tick, unsent: Job) -> Verdict
     requires { ⌜ (1 ≤ period) × (deadline ≤ longestPeriod) ⌝ }
-    ensures { λ r. ⌜ r ≡ verdict (runningLines (last .0) sent period deadline (at .0)) ⌝ }
+    ensures { λ r. ⌜ r ≡ verdict (runningLines (before .0) (unsent .0) period deadline (at .0)) ⌝ }
 {
     if Plan::LAST_TICK < at.0 {
         return refused(Rule::PastLastTick);
@@ -82,20 +83,21 @@ fn judge_running(period: u64, deadline: u64, at: Tick, last: Tick, sent: u64) ->
     if Plan::LAST_TICK < end.0 {
         return refused(Rule::PastLastTick);
     }
-    if at.0 < last.0 {
+    if at.0 < before.0 {
         return refused(Rule::TickBeforeState);
     }
     if end.0 <= at.0 {
         return refused(Rule::JobOver);
     }
-    if at.0 / period < sent {
+    if at.0 / period < unsent.0 {
         return refused(Rule::SentAlready);
     }
     Verdict::Clear
 }
 
-// Rules 8, 14, 9, 11, 10, 12, 13.
+// Rules 7, 8, 14, 9, 11, 10, 12, 13. `before` is the state's tick, and `sent` its column of jobs.
 pub fn judge_send<'a>(
+    sound: bool,
     sends: &'a [bool; Plan::CELLS],
     period: &'a [u64; Plan::TASKS],
     deadline: &'a [u64; Plan::TASKS],
@@ -109,14 +111,18 @@ pub fn judge_send<'a>(
     task: usize,
     at: Tick,
     payload: &[u8],
-    last: Tick,
-    sent: u64,
+    before: Tick,
+    sent: &[u64; Plan::CELLS],
 ) -> Verdict
-    requires { ⌜ soundPlan (lentPlan (now sends) (now period) (now deadline) (now receiver) (now size) (now place) tasks queues) ≡ true ⌝ }
-    ensures { λ r. ⌜ r ≡ verdict (sendLines (last .0) sent
-        (lentPlan (now (sends .entry)) (now (period .entry)) (now (deadline .entry)) (now (receiver .entry)) (now (size .entry)) (now (place .entry)) tasks queues)
+    requires { ⌜ sound ≡ soundPlan (lentPlan (now sends) (now period) (now deadline) (now receiver) (now size) (now place) tasks queues) ⌝ }
+    ensures { λ r. ⌜ r ≡ verdict (sendLines (before .0) (unsentAt (now (sent .entry)) queue task)
+        (lentPlan (now (sends .entry)) (now (period .entry)) (now (deadline .entry)) (now (receiver .entry))
+        (now (size .entry)) (now (place .entry)) tasks queues)
         (now (memory .entry)) queue task (at .0) (now (payload .entry))) ⌝ }
 {
+    if !sound {
+        return refused(Rule::UnsoundPlan);
+    }
     if short(memory.len(), queues, size, place) {
         return refused(Rule::ShortMemory);
     }
@@ -126,18 +132,19 @@ pub fn judge_send<'a>(
     if !rules::connected(queues, tasks, sends, queue, task) {
         return refused(Rule::NoSuchSender);
     }
-    judge_running(period[task], deadline[task], at, last, sent)
+    let unsent = Job(sent[queue * Plan::TASKS + task]);
+    judge_running(period[task], deadline[task], at, before, unsent)
 }
 
-// Rules 11, 10, 12 of a receiver, whose job wants its messages for so many ticks: `last` is the state's tick.
-fn judge_wanting(period: u64, wanted: u64, at: Tick, last: Tick) -> Verdict
+// Rules 11, 10, 12 of a receiver, whose job wants its messages for so many ticks: `before` is the state's tick.
+fn judge_wanting(period: u64, wanted: u64, at: Tick, before: Tick) -> Verdict
     requires { ⌜ (1 ≤ period) × (wanted ≤ longestPeriod) ⌝ }
-    ensures { λ r. ⌜ r ≡ verdict (wantingLines (last .0) period wanted (at .0)) ⌝ }
+    ensures { λ r. ⌜ r ≡ verdict (wantingLines (before .0) period wanted (at .0)) ⌝ }
 {
     if Plan::LAST_TICK < at.0 {
         return refused(Rule::PastLastTick);
     }
-    if at.0 < last.0 {
+    if at.0 < before.0 {
         return refused(Rule::TickBeforeState);
     }
     let until = end_of_job(period, wanted, at);
@@ -147,8 +154,9 @@ fn judge_wanting(period: u64, wanted: u64, at: Tick, last: Tick) -> Verdict
     Verdict::Clear
 }
 
-// Rules 8, 9, 11, 10, 12.
+// Rules 7, 8, 9, 11, 10, 12. `before` is the state's tick.
 pub fn judge_receive<'a>(
+    sound: bool,
     sends: &'a [bool; Plan::CELLS],
     period: &'a [u64; Plan::TASKS],
     deadline: &'a [u64; Plan::TASKS],
@@ -160,13 +168,17 @@ pub fn judge_receive<'a>(
     memory: &[u8],
     queue: usize,
     at: Tick,
-    last: Tick,
+    before: Tick,
 ) -> Verdict
-    requires { ⌜ soundPlan (lentPlan (now sends) (now period) (now deadline) (now receiver) (now size) (now place) tasks queues) ≡ true ⌝ }
-    ensures { λ r. ⌜ r ≡ verdict (receiveLines (last .0)
-        (lentPlan (now (sends .entry)) (now (period .entry)) (now (deadline .entry)) (now (receiver .entry)) (now (size .entry)) (now (place .entry)) tasks queues)
+    requires { ⌜ sound ≡ soundPlan (lentPlan (now sends) (now period) (now deadline) (now receiver) (now size) (now place) tasks queues) ⌝ }
+    ensures { λ r. ⌜ r ≡ verdict (receiveLines (before .0)
+        (lentPlan (now (sends .entry)) (now (period .entry)) (now (deadline .entry)) (now (receiver .entry))
+        (now (size .entry)) (now (place .entry)) tasks queues)
         (now (memory .entry)) queue (at .0)) ⌝ }
 {
+    if !sound {
+        return refused(Rule::UnsoundPlan);
+    }
     if short(memory.len(), queues, size, place) {
         return refused(Rule::ShortMemory);
     }
@@ -174,5 +186,5 @@ pub fn judge_receive<'a>(
         return refused(Rule::NoSuchSender);
     }
     let row = receiver[queue];
-    judge_wanting(period[row], calendar::wanted_for(deadline[row]), at, last)
+    judge_wanting(period[row], calendar::wanted_for(deadline[row]), at, before)
 }

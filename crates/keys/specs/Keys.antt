@@ -29,7 +29,8 @@ meant p k = meaning (k .sort) (k .within) (spelled p (k .first)) (spelled p (k .
 -- whether two keys mean the same
 unfoldable pub sameMeaning : Meaning → Meaning → Bool
 sameMeaning a b =
-    eqb (a .sort) (b .sort) && (eqb (a .within) (b .within) && (same (a .first) (b .first) && (same (a .second) (b .second) && same (a .third) (b .third))))
+    eqb (a .sort) (b .sort) && (eqb (a .within) (b .within)
+    && (same (a .first) (b .first) && (same (a .second) (b .second) && same (a .third) (b .third))))
 
 -- ## A number for each meaning
 

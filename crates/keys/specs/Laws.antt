@@ -1,6 +1,8 @@
 -- Laws of keys: names are walked byte by byte, and keys that are found the same mean the same.
-use Rattle.common.specs.Words.{ℕ, zero, suc, _+_, _*_, _%_, _<_, _≤_, arith, add-one, Bool, true, false, cond, _&&_, List, [], _∷_, _≡_, refl, sym, ap, _∙_}
-use Rattle.common.specs.Words.{mod-lt, mul-le-mul, eqb, leb, eq-eqb, ne-eqb, eqb-true, length, getD, drop-cons, drop-of-length-le, List·getD-eq-default, ⊎-elim}
+use Rattle.common.specs.Words.{ℕ, zero, suc, _+_, _*_, _%_, _<_, _≤_, arith, add-one, Bool, true, false, cond, _&&_}
+use Rattle.common.specs.Words.{List, [], _∷_, _≡_, refl, sym, ap, _∙_}
+use Rattle.common.specs.Words.{mod-lt, mul-le-mul, eqb, leb, eq-eqb, ne-eqb, eqb-true, length, getD, drop-cons}
+use Rattle.common.specs.Words.{drop-of-length-le, List·getD-eq-default, ⊎-elim}
 use Rattle.common.specs.Tests.{and-left, and-right, lt-or-le}
 use Rattle.words.specs.Letters.{same, same-eq, same-refl}
 use Rattle.tokens.specs.Tokens.{sortOf, run, letter, digit}
@@ -21,13 +23,15 @@ byte-inside p i n = ⊎-elim (λ (l : i < length p). l) (λ (h : length p ≤ i)
 abbrev pub begins : ℕ → List ℕ → List ℕ
 begins b rest = cond (eqb b 0) [] (b ∷ rest)
 
-begins-by : (b : ℕ) (rest : List ℕ) (t : Bool) → (leb letter (sortOf b) && leb (sortOf b) digit) ≡ t → cond t (b ∷ rest) [] ≡ begins (cond t b 0) rest
+begins-by : (b : ℕ) (rest : List ℕ) (t : Bool) → (leb letter (sortOf b) && leb (sortOf b) digit) ≡ t →
+    cond t (b ∷ rest) [] ≡ begins (cond t b 0) rest
 unfolding sortOf
 begins-by zero rest true e = cc
 begins-by (suc b) rest true e = rw (ne-eqb (suc b) 0 (λ h. omega arith))
 begins-by b rest false e = refl
 
-spelled-here : (p : List ℕ) (i : ℕ) → i < length p → (t : Bool) → (leb letter (sortOf (getD p i 0)) && leb (sortOf (getD p i 0)) digit) ≡ t →
+spelled-here : (p : List ℕ) (i : ℕ) → i < length p → (t : Bool) →
+    (leb letter (sortOf (getD p i 0)) && leb (sortOf (getD p i 0)) digit) ≡ t →
     spelled p i ≡ cond t (getD p i 0 ∷ spelled p (i + 1)) []
 unfolding spelled run
 spelled-here p i l true e = rw (add-one i, drop-cons p i 0 l, e)

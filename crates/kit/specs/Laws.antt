@@ -38,7 +38,8 @@ module _ (so : ℕ → Bool) where
   chosen-below zero i l = absurd (omega arith)
   chosen-below (suc n) i l = go (so n) (chosen-below n i) l
     where
-      go : (b : Bool) → (i < length (chosenBelow so n) → getD (chosenBelow so n) i 0 < n) → i < length (chosenBelow so n ++ cond b (n ∷ []) []) →
+      go : (b : Bool) → (i < length (chosenBelow so n) → getD (chosenBelow so n) i 0 < n) →
+          i < length (chosenBelow so n ++ cond b (n ∷ []) []) →
           getD (chosenBelow so n ++ cond b (n ∷ []) []) i 0 < suc n
       go true h l =
           ⊎-elim (λ (o : i < length (chosenBelow so n)). rw (List·getD-append (chosenBelow so n) (n ∷ []) 0 i o) (omega (arith, h o)))
@@ -71,7 +72,8 @@ held-more ks k l =
 
     other : (i : ℕ) → (i ≡ length ks → ⊥) → getD (ks ++ (k ∷ [])) i 0 ≡ getD ks i 0
     other i n =
-        ⊎-elim (λ (o : i < length ks). List·getD-append ks (k ∷ []) 0 i o) (λ (o : length ks ≤ i). beyond i (omega arith)) (lt-or-le i (length ks))
+        ⊎-elim (λ (o : i < length ks). List·getD-append ks (k ∷ []) 0 i o)
+        (λ (o : length ks ≤ i). beyond i (omega arith)) (lt-or-le i (length ks))
 
     at : (i : ℕ) → i < taskLimit → getD (set (held ks) (length ks) k) i 0 ≡ getD (held (ks ++ (k ∷ []))) i 0
     at i h =
@@ -118,7 +120,8 @@ module _ (ks : List ℕ) {x : Chosen} (e : x ≡ chosen ks) where
   rows-are = ap (λ (y : Chosen). y .rows) e
 
   -- one more
-  pub more-held : (k : ℕ) {r : List ℕ} → x .count < taskLimit → r ≡ set (x .rows) (x .count) k → counted (x .count + 1) r ≡ chosen (ks ++ (k ∷ []))
+  pub more-held : (k : ℕ) {r : List ℕ} → x .count < taskLimit → r ≡ set (x .rows) (x .count) k →
+      counted (x .count + 1) r ≡ chosen (ks ++ (k ∷ []))
   more-held k l f = rw (f, rows-are, count-is, held-more ks k (omega (arith, count-is, l)), length-append ks (k ∷ [])) refl
 
   pub more-full : (k : ℕ) {r : List ℕ} → taskLimit ≤ x .count → r ≡ x .rows → counted (x .count + 1) r ≡ chosen (ks ++ (k ∷ []))
@@ -139,18 +142,21 @@ module _ (ks : List ℕ) {x : Chosen} (e : x ≡ chosen ks) where
       rw t refl
 
 -- rows that were chosen are rows that are there
-chosen-row : (so : ℕ → Bool) (n : ℕ) {x : Chosen} → x ≡ chosen (chosenBelow so n) → (i : ℕ) → i < taskLimit → i < x .count → getD (x .rows) i 0 < n
+chosen-row : (so : ℕ → Bool) (n : ℕ) {x : Chosen} → x ≡ chosen (chosenBelow so n) →
+    (i : ℕ) → i < taskLimit → i < x .count → getD (x .rows) i 0 < n
 chosen-row so n e i l h = rw (chosen-at (chosenBelow so n) e i l) (chosen-below so n i (omega (arith, count-is (chosenBelow so n) e, h)))
 
 pub chosen-count : (so : ℕ → Bool) (n : ℕ) {x : Chosen} → x ≡ chosen (chosenBelow so n) → x .count ≤ n
 chosen-count so n e = omega (arith, count-is (chosenBelow so n) e, chosen-few so n)
 
-pub thread-row : (count : ℕ) (m : List ℕ) {x : Chosen} → x ≡ chosen (threadsOf (rowsIn count m)) → (i : ℕ) → i < taskLimit → i < x .count →
+pub thread-row : (count : ℕ) (m : List ℕ) {x : Chosen} → x ≡ chosen (threadsOf (rowsIn count m)) →
+    (i : ℕ) → i < taskLimit → i < x .count →
     getD (x .rows) i 0 < count
 unfolding threadsOf
 thread-row count m e i l h = rw (rows-length count m) at (chosen-row _ (length (rowsIn count m)) e i l h)
 
-pub queue-row : (p : List ℕ) (count : ℕ) (m : List ℕ) {x : Chosen} → x ≡ chosen (queuesOf p (rowsIn count m)) → (i : ℕ) → i < taskLimit → i < x .count →
+pub queue-row : (p : List ℕ) (count : ℕ) (m : List ℕ) {x : Chosen} →
+    x ≡ chosen (queuesOf p (rowsIn count m)) → (i : ℕ) → i < taskLimit → i < x .count →
     getD (x .rows) i 0 < count
 unfolding queuesOf
 queue-row p count m e i l h = rw (rows-length count m) at (chosen-row _ (length (rowsIn count m)) e i l h)

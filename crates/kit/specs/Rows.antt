@@ -23,7 +23,8 @@ module _ (so : ℕ → Bool) where
       ((i < length (chosenBelow so n)) × (getD (chosenBelow so n ++ cond b (n ∷ []) []) i 0 ≡ getD (chosenBelow so n) i 0))
       ⊎ ((b ≡ true) × ((i ≡ length (chosenBelow so n)) × (getD (chosenBelow so n ++ cond b (n ∷ []) []) i 0 ≡ n)))
   last n i b l =
-      ⊎-elim (λ (h : i < length (chosenBelow so n)). inl (h, List·getD-append (chosenBelow so n) (cond b (n ∷ []) []) 0 i h)) (go b l) (lt-or-le i (length (chosenBelow so n)))
+      ⊎-elim (λ (h : i < length (chosenBelow so n)). inl (h, List·getD-append (chosenBelow so n) (cond b (n ∷ []) []) 0 i h))
+      (go b l) (lt-or-le i (length (chosenBelow so n)))
     where
       go : (b : Bool) → i < length (chosenBelow so n ++ cond b (n ∷ []) []) → length (chosenBelow so n) ≤ i →
           ((i < length (chosenBelow so n)) × (getD (chosenBelow so n ++ cond b (n ∷ []) []) i 0 ≡ getD (chosenBelow so n) i 0))
@@ -39,7 +40,8 @@ module _ (so : ℕ → Bool) where
   chosen-so (suc n) i l =
       ⊎-elim (λ (h : (i < length (chosenBelow so n)) × (getD (chosenBelow so (suc n)) i 0 ≡ getD (chosenBelow so n) i 0)).
       let c = chosen-so n i (h .0) in (omega (arith, h .1, c .0), ap so (h .1) ∙ c .1))
-      (λ (h : (so n ≡ true) × ((i ≡ length (chosenBelow so n)) × (getD (chosenBelow so (suc n)) i 0 ≡ n))). (omega (arith, h .1 .1), ap so (h .1 .1) ∙ h .0))
+      (λ (h : (so n ≡ true) × ((i ≡ length (chosenBelow so n)) × (getD (chosenBelow so (suc n)) i 0 ≡ n))).
+      (omega (arith, h .1 .1), ap so (h .1 .1) ∙ h .0))
       (last n i (so n) l)
 
   pub chosen-rising : (n i j : ℕ) → i < j → j < length (chosenBelow so n) → getD (chosenBelow so n) i 0 < getD (chosenBelow so n) j 0
@@ -47,11 +49,13 @@ module _ (so : ℕ → Bool) where
   chosen-rising zero i j l h = absurd (omega arith)
   chosen-rising (suc n) i j l h =
       ⊎-elim (λ (b : (j < length (chosenBelow so n)) × (getD (chosenBelow so (suc n)) j 0 ≡ getD (chosenBelow so n) j 0)).
-      let a : getD (chosenBelow so (suc n)) i 0 ≡ getD (chosenBelow so n) i 0 = List·getD-append (chosenBelow so n) (cond (so n) (n ∷ []) []) 0 i (omega (arith, b .0)) in
+      let a : getD (chosenBelow so (suc n)) i 0 ≡ getD (chosenBelow so n) i 0 =
+      List·getD-append (chosenBelow so n) (cond (so n) (n ∷ []) []) 0 i (omega (arith, b .0)) in
       omega (arith, a, b .1, chosen-rising n i j l (b .0)))
       (λ (b : (so n ≡ true) × ((j ≡ length (chosenBelow so n)) × (getD (chosenBelow so (suc n)) j 0 ≡ n))).
       let k : i < length (chosenBelow so n) = omega (arith, b .1 .0) in
-      let a : getD (chosenBelow so (suc n)) i 0 ≡ getD (chosenBelow so n) i 0 = List·getD-append (chosenBelow so n) (cond (so n) (n ∷ []) []) 0 i k in
+      let a : getD (chosenBelow so (suc n)) i 0 ≡ getD (chosenBelow so n) i 0 =
+      List·getD-append (chosenBelow so n) (cond (so n) (n ∷ []) []) 0 i k in
       omega (arith, a, b .1 .1, chosen-so n i k .0)) (last n j (so n) h)
 
   abbrev Stands : ℕ → ℕ → Type 0
@@ -64,13 +68,25 @@ module _ (so : ℕ → Bool) where
       ⊎-elim (λ (o : k < n). earlier (so-chosen n k o h))
       (λ (o : n ≤ k). let e : k ≡ n = omega arith in here (so n) (sym (ap so e) ∙ h) (sym e)) (lt-or-le k n)
     where
-      earlier : Stands n k → (i : ℕ) × ((i < length (chosenBelow so n ++ cond (so n) (n ∷ []) [])) × (getD (chosenBelow so n ++ cond (so n) (n ∷ []) []) i 0 ≡ k))
-      earlier s =
-          (s .0, (omega (arith, s .1 .0, length-append (chosenBelow so n) (cond (so n) (n ∷ []) [])), List·getD-append (chosenBelow so n) (cond (so n) (n ∷ []) []) 0 (s .0) (s .1 .0) ∙ s .1 .1))
+      earlier : Stands n k → (i : ℕ) × ((i < length (chosenBelow so n ++ cond (so n) (n ∷ []) []))
+          × (getD (chosenBelow so n ++ cond (so n) (n ∷ []) []) i 0 ≡ k))
+      earlier s = (
+        s .0,
+        (
+          omega (arith, s .1 .0, length-append (chosenBelow so n) (cond (so n) (n ∷ []) [])),
+          List·getD-append (chosenBelow so n) (cond (so n) (n ∷ []) []) 0 (s .0) (s .1 .0) ∙ s .1 .1,
+        ),
+      )
 
-      here : (b : Bool) → b ≡ true → n ≡ k → (i : ℕ) × ((i < length (chosenBelow so n ++ cond b (n ∷ []) [])) × (getD (chosenBelow so n ++ cond b (n ∷ []) []) i 0 ≡ k))
-      here true e f =
-          (length (chosenBelow so n), (omega (arith, length-append (chosenBelow so n) (n ∷ [])), getD-at (chosenBelow so n) n [] 0 (length (chosenBelow so n)) refl ∙ f))
+      here : (b : Bool) → b ≡ true → n ≡ k → (i : ℕ) × ((i < length (chosenBelow so n ++ cond b (n ∷ []) []))
+          × (getD (chosenBelow so n ++ cond b (n ∷ []) []) i 0 ≡ k))
+      here true e f = (
+        length (chosenBelow so n),
+        (
+          omega (arith, length-append (chosenBelow so n) (n ∷ [])),
+          getD-at (chosenBelow so n) n [] 0 (length (chosenBelow so n)) refl ∙ f,
+        ),
+      )
       here false e f = absurd (true≢false (sym e))
 
 -- ## Rows and queues
@@ -79,18 +95,22 @@ module _ (p : List ℕ) (rows : List Row) where
   -- a row of the table is a thread, and a queue the first connection to its port
   pub row-thread : (i : ℕ) → i < length (threadsOf rows) → cell rows (getD (threadsOf rows) i 0) 0 ≡ aThread
   unfolding threadsOf
-  row-thread i l = eqb-true (cell rows (getD (threadsOf rows) i 0) 0) aThread (chosen-so (λ (k : ℕ). eqb (cell rows k 0) aThread) (length rows) i l .1)
+  row-thread i l = eqb-true (cell rows (getD (threadsOf rows) i 0) 0) aThread
+      (chosen-so (λ (k : ℕ). eqb (cell rows k 0) aThread) (length rows) i l .1)
 
   -- each with its Period and Deadline
-  pub row-period : (i : ℕ) → i < taskLimit → i < length (threadsOf rows) → getD (tableOf p rows .period) i 0 ≡ timeOf p rows 5 (getD (threadsOf rows) i 0)
+  pub row-period : (i : ℕ) → i < taskLimit → i < length (threadsOf rows) →
+      getD (tableOf p rows .period) i 0 ≡ timeOf p rows 5 (getD (threadsOf rows) i 0)
   unfolding tableOf
   row-period i l h = table-at (atOr (threadsOf rows) (timeOf p rows 5) 0) taskLimit i 0 l ∙ rw (lt-ltb i (length (threadsOf rows)) h)
 
-  pub row-deadline : (i : ℕ) → i < taskLimit → i < length (threadsOf rows) → getD (tableOf p rows .deadline) i 0 ≡ timeOf p rows 6 (getD (threadsOf rows) i 0)
+  pub row-deadline : (i : ℕ) → i < taskLimit → i < length (threadsOf rows) →
+      getD (tableOf p rows .deadline) i 0 ≡ timeOf p rows 6 (getD (threadsOf rows) i 0)
   unfolding tableOf
   row-deadline i l h = table-at (atOr (threadsOf rows) (timeOf p rows 6) 0) taskLimit i 0 l ∙ rw (lt-ltb i (length (threadsOf rows)) h)
 
-  pub queue-receiver : (j : ℕ) → j < queueLimit → j < length (queuesOf p rows) → getD (tableOf p rows .receiver) j 0 ≡ receiverOf p rows (getD (queuesOf p rows) j 0)
+  pub queue-receiver : (j : ℕ) → j < queueLimit → j < length (queuesOf p rows) →
+      getD (tableOf p rows .receiver) j 0 ≡ receiverOf p rows (getD (queuesOf p rows) j 0)
   unfolding tableOf
   queue-receiver j l h = table-at (atOr (queuesOf p rows) (receiverOf p rows) 0) queueLimit j 0 l ∙ rw (lt-ltb j (length (queuesOf p rows)) h)
 
@@ -107,11 +127,13 @@ module _ (p : List ℕ) (rows : List Row) where
   abbrev pub connection : ℕ → ℕ → Meaning
   connection q k = meant p (key aConnection (cell rows q 1) (cell rows k 2) (cell rows q 6) (cell rows q 7))
 
-  pub joins-says : (q k : ℕ) → joins p rows q k ≡ true → (j : ℕ) × ((j < length rows) × (meant p (keyBy 1 (getD rows j [])) ≡ connection q k))
+  pub joins-says : (q k : ℕ) → joins p rows q k ≡ true →
+      (j : ℕ) × ((j < length rows) × (meant p (keyBy 1 (getD rows j [])) ≡ connection q k))
   unfolding joins
   joins-says q k h = go (found (connection q k) (keysOf p 1 rows)) refl h
     where
-      go : (n : ℕ) → found (connection q k) (keysOf p 1 rows) ≡ n → not (none n) ≡ true → (j : ℕ) × ((j < length rows) × (meant p (keyBy 1 (getD rows j [])) ≡ connection q k))
+      go : (n : ℕ) → found (connection q k) (keysOf p 1 rows) ≡ n → not (none n) ≡ true →
+          (j : ℕ) × ((j < length rows) × (meant p (keyBy 1 (getD rows j [])) ≡ connection q k))
       go zero e g = absurd (true≢false (sym g))
       go (suc j) e g =
           let l : j < length rows = omega (arith, found-le (connection q k) (keysOf p 1 rows), keys-of-length p 1 rows, e) in

@@ -84,7 +84,8 @@ fn threads(rows: &[usize], count: usize) -> Chosen
 // Whether row k is the first connection to its queue.
 fn is_queue(text: &[u8], rows: &[usize], queued: &[u32], count: usize, k: usize) -> bool
     requires { ⌜ Indexed (now text) 2 (now rows) (now queued) count × (k < count) ⌝ }
-    ensures { λ r. ⌜ r ≡ (eqb (cell (rowsIn count (now (rows .entry))) k 0) aLink && isFirst (now (text .entry)) 2 (rowsIn count (now (rows .entry))) k) ⌝ }
+    ensures { λ r. ⌜ r ≡ (eqb (cell (rowsIn count (now (rows .entry))) k 0) aLink
+        && isFirst (now (text .entry)) 2 (rowsIn count (now (rows .entry))) k) ⌝ }
 {
     if cell(rows, count, k, 0) != LINK {
         return false;
@@ -149,7 +150,8 @@ fn time_at(
 ) -> u64
     requires { ⌜ Known (now text) (now rows) (now declared) (now types) count × (threads ≡ chosen (threadsOf (rowsIn count (now rows))))
         × (i < taskLimit) × (c < rowWords) ⌝ }
-    ensures { λ r. ⌜ r ≡ atOr (threadsOf (rowsIn count (now (rows .entry)))) (timeOf (now (text .entry)) (rowsIn count (now (rows .entry))) c) 0 i ⌝ }
+    ensures { λ r. ⌜ r ≡ atOr (threadsOf (rowsIn count (now (rows .entry))))
+        (timeOf (now (text .entry)) (rowsIn count (now (rows .entry))) c) 0 i ⌝ }
 {
     let first = threads.rows;
     if i < threads.count {
@@ -167,8 +169,10 @@ fn times(
     threads: Chosen,
     c: usize,
 ) -> [u64; Plan::TASKS]
-    requires { ⌜ Known (now text) (now rows) (now declared) (now types) count × (threads ≡ chosen (threadsOf (rowsIn count (now rows)))) × (c < rowWords) ⌝ }
-    ensures { λ r. ⌜ r ≡ table (atOr (threadsOf (rowsIn count (now (rows .entry)))) (timeOf (now (text .entry)) (rowsIn count (now (rows .entry))) c) 0) taskLimit ⌝ }
+    requires { ⌜ Known (now text) (now rows) (now declared) (now types) count
+        × (threads ≡ chosen (threadsOf (rowsIn count (now rows)))) × (c < rowWords) ⌝ }
+    ensures { λ r. ⌜ r ≡ table (atOr (threadsOf (rowsIn count (now (rows .entry))))
+        (timeOf (now (text .entry)) (rowsIn count (now (rows .entry))) c) 0) taskLimit ⌝ }
 {
     let mut out = [0u64; Plan::TASKS];
     for i in 0..Plan::TASKS {
@@ -211,7 +215,8 @@ fn receiver_at(
 ) -> usize
     requires { ⌜ Indexed (now text) 0 (now rows) (now declared) count × (threads ≡ chosen (threadsOf (rowsIn count (now rows))))
         × (queues ≡ chosen (queuesOf (now text) (rowsIn count (now rows)))) × (j < queueLimit) ⌝ }
-    ensures { λ r. ⌜ r ≡ atOr (queuesOf (now (text .entry)) (rowsIn count (now (rows .entry)))) (receiverOf (now (text .entry)) (rowsIn count (now (rows .entry)))) 0 j ⌝ }
+    ensures { λ r. ⌜ r ≡ atOr (queuesOf (now (text .entry)) (rowsIn count (now (rows .entry))))
+        (receiverOf (now (text .entry)) (rowsIn count (now (rows .entry)))) 0 j ⌝ }
 {
     let first = queues.rows;
     if queues.count <= j {
@@ -236,7 +241,8 @@ fn receivers(
 ) -> [usize; Plan::QUEUES]
     requires { ⌜ Indexed (now text) 0 (now rows) (now declared) count × (threads ≡ chosen (threadsOf (rowsIn count (now rows))))
         × (queues ≡ chosen (queuesOf (now text) (rowsIn count (now rows)))) ⌝ }
-    ensures { λ r. ⌜ r ≡ table (atOr (queuesOf (now (text .entry)) (rowsIn count (now (rows .entry)))) (receiverOf (now (text .entry)) (rowsIn count (now (rows .entry)))) 0) queueLimit ⌝ }
+    ensures { λ r. ⌜ r ≡ table (atOr (queuesOf (now (text .entry)) (rowsIn count (now (rows .entry))))
+        (receiverOf (now (text .entry)) (rowsIn count (now (rows .entry)))) 0) queueLimit ⌝ }
 {
     let mut out = [0usize; Plan::QUEUES];
     for j in 0..Plan::QUEUES {

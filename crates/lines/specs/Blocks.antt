@@ -1,16 +1,7 @@
 -- Feeding a text in any division into blocks gives the same lines, and the same carry, as feeding it whole.
 use Rattle.common.specs.Words.{ℕ, Bool, true, false, List, [], _∷_, _++_, _≡_, refl, sym, ap, _∙_, eqb}
-use Rattle.lines.specs.Lines.{lineFeed, cut, Fed, after, fed}
-
--- one block after another
-unfoldable pub fedAll : List ℕ → List (List ℕ) → Fed
-fedAll c [] = record { carry = c; lines = [] }
-fedAll c (x ∷ xs) = after (fed c x .lines) (fedAll (fed c x .carry) xs)
-
--- the text that the blocks are a division of
-unfoldable pub joined : List (List ℕ) → List ℕ
-joined [] = []
-joined (x ∷ xs) = x ++ joined xs
+use Rattle.lines.specs.Lines.{lineFeed, cut, after, fed}
+unfoldable pub use Rattle.lines.specs.Lines.{fedAll, joined}
 
 pub fed-append : (c xs ys : List ℕ) → fed c (xs ++ ys) ≡ after (fed c xs .lines) (fed (fed c xs .carry) ys)
 unfolding fed

@@ -1,6 +1,8 @@
 -- Where the next line of a block ends, and what feeding the block is in these terms.
-use Rattle.common.specs.Words.{ℕ, zero, suc, _+_, _<_, _≤_, arith, add-one, Bool, true, false, cond, true≢false, List, [], _∷_, _++_, append-assoc}
-use Rattle.common.specs.Words.{append-nil, _≡_, refl, ap, _∙_, eqb, length, take, drop, getD, drop-of-length-le, drop-cons, eq-eqb, ne-eqb, eqb-false}
+use Rattle.common.specs.Words.{ℕ, zero, suc, _+_, _<_, _≤_, arith, add-one, Bool, true, false, cond, true≢false, List, [], _∷_, _++_}
+use Rattle.common.specs.Words.{append-assoc}
+use Rattle.common.specs.Words.{append-nil, _≡_, refl, ap, _∙_, eqb, length, take, drop, getD, drop-of-length-le, drop-cons, eq-eqb, ne-eqb}
+use Rattle.common.specs.Words.{eqb-false}
 use Rattle.lines.specs.Lines.{lineFeed, cut, after, fed}
 use Rattle.lines.specs.Whole.{cut-append, cut-short, cut-length}
 
@@ -102,7 +104,8 @@ unfolding feedIn
 end-passes p i zero l e = let z : i + 0 ≡ i = omega arith in rw z
 end-passes p i (suc k) l e = go (eqb (getD p (i + k) 0) lineFeed) refl (end-passes p i k (omega arith))
   where
-    go : (b : Bool) → eqb (getD p (i + k) 0) lineFeed ≡ b → (feedIn p i k ≡ false → endOf p (i + k) ≡ endOf p i) → endOf p (i + suc k) ≡ endOf p i
+    go : (b : Bool) → eqb (getD p (i + k) 0) lineFeed ≡ b → (feedIn p i k ≡ false → endOf p (i + k) ≡ endOf p i) →
+        endOf p (i + suc k) ≡ endOf p i
     go true h f = absurd (true≢false (rw h at e))
     go false h f =
         let z : i + suc k ≡ i + k + 1 = omega arith in

@@ -1,9 +1,12 @@
 -- The carry buffer: its first `used` bytes are the carry. What it holds after a part of a line was put behind the carry, and the line
 -- that the carry and that part make.
-use Rattle.common.specs.Words.{ℕ, _+_, _-_, _<_, _≤_, min, arith, cond, List, _++_, ⊎-elim, _≡_, sym, ap, _∙_, eqb, ltb, length, take, drop}
+use Rattle.common.specs.Words.{ℕ, _+_, _-_, _<_, _≤_, min, arith, cond, List, _++_, ⊎-elim, _≡_, sym, ap, _∙_, eqb, ltb, length, take}
+use Rattle.common.specs.Words.{drop}
 use Rattle.common.specs.Words.{length-append, length-take, take-all, take-take, take-length, length-take-le, sets, length-sets, sets-eq}
 use Rattle.common.specs.Words.{take-append-add, take-at, eq-eqb, ne-eqb, lt-ltb}
+use denote.Ref.{RefT, now}
 use Rattle.common.specs.Tests.{lt-or-le}
+use Rattle.common.specs.Stores.{part}
 use Rattle.lines.specs.Lines.{kept, cut}
 
 abbrev pub keptOf : ℕ → List ℕ → ℕ
@@ -62,6 +65,12 @@ joinedIn held used xs = cond (eqb used 0) held (heldOf held used xs)
 -- the line stands at the buffer's start, or in the block
 abbrev pub lineOf : List ℕ → ℕ → List ℕ → List ℕ
 lineOf held n xs = cond (ltb 0 n) (take n held) (cut xs)
+
+-- and where it lies there
+abbrev pub LineGives : RefT (List ℕ) → ℕ → RefT (List ℕ) → ℕ → ℕ → RefT (List ℕ) → Type 0
+LineGives held n piece from to r =
+    (now r ≡ lineOf (now held) n (part (now piece) from (to - from)))
+    × (r .ptr ≡ cond (ltb 0 n) (held .ptr) (piece .ptr .0, from + piece .ptr .1))
 
 -- the code counts its bytes
 pub cut-take : (n : ℕ) (l : List ℕ) → cut (take n l) ≡ take (min kept n) l

@@ -3,4 +3,5 @@ pub mod Lines
 pub mod Blocks
 pub mod Whole
 pub mod Ends
+pub mod Strides
 pub mod Held

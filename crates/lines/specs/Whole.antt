@@ -1,26 +1,10 @@
--- The lines of a whole text: the text split at its line feeds, each line cut.
-use Rattle.common.specs.Words.{ℕ, zero, suc, _≤_, arith, Bool, true, false, cond, List, [], _∷_, _++_, map, append-assoc, append-nil, _≡_, refl}
+-- The lines of a whole text are those that feeding gives: the text split at its line feeds, each line cut.
+use Rattle.common.specs.Words.{ℕ, zero, suc, _≤_, arith, Bool, true, false, cond, List, [], _∷_, _++_, map, append-assoc, append-nil, _≡_}
+use Rattle.common.specs.Words.{refl}
 use Rattle.common.specs.Words.{sym, ap, _∙_, eqb, ne-eqb, length, take, length-take, take-all}
 use Rattle.lines.specs.Lines.{lineFeed, kept, cut, fed, ended}
-
--- the carry goes before the first piece
-abbrev pub begun : List ℕ → List (List ℕ) → List (List ℕ)
-begun c [] = c ∷ []
-begun c (p ∷ ps) = (c ++ p) ∷ ps
-
--- the pieces between the line feeds, one more than there are line feeds
-unfoldable pub pieces : List ℕ → List (List ℕ)
-pieces [] = [] ∷ []
-pieces (b ∷ bs) = cond (eqb b lineFeed) ([] ∷ pieces bs) (begun (b ∷ []) (pieces bs))
-
--- each piece is a line, but for an empty last one: a text that ends with a line feed has no further line, and an empty text has none
-unfoldable pub counted : List (List ℕ) → List (List ℕ)
-counted [] = []
-counted (p ∷ []) = cond (eqb (length p) 0) [] (p ∷ [])
-counted (p ∷ q ∷ qs) = p ∷ counted (q ∷ qs)
-
-unfoldable pub linesOf : List ℕ → List (List ℕ)
-linesOf t = counted (pieces t)
+pub use Rattle.lines.specs.Lines.{begun}
+unfoldable pub use Rattle.lines.specs.Lines.{pieces, counted, linesOf}
 
 -- ## Cutting
 
@@ -63,7 +47,8 @@ unfolding pieces
 begun-none [] = refl
 begun-none (b ∷ bs) = go (eqb b lineFeed)
   where
-    go : (e : Bool) → begun [] (cond e ([] ∷ pieces bs) (begun (b ∷ []) (pieces bs))) ≡ cond e ([] ∷ pieces bs) (begun (b ∷ []) (pieces bs))
+    go : (e : Bool) → begun [] (cond e ([] ∷ pieces bs) (begun (b ∷ []) (pieces bs)))
+        ≡ cond e ([] ∷ pieces bs) (begun (b ∷ []) (pieces bs))
     go true = refl
     go false = begun-begun [] (b ∷ []) (pieces bs)
 
@@ -74,10 +59,12 @@ cut-begun c (p ∷ ps) = rw (cut-append c p)
 fed-pieces : (c t : List ℕ) → cut c ≡ c → fed c t .lines ++ (fed c t .carry ∷ []) ≡ map cut (begun c (pieces t))
 unfolding fed pieces
 fed-pieces c [] h = rw (append-nil c, h)
-fed-pieces c (b ∷ bs) h = go (eqb b lineFeed) refl (fed-pieces [] bs cut-none) (fed-pieces (cut (c ++ (b ∷ []))) bs (cut-short _ (cut-length (c ++ (b ∷ [])))))
+fed-pieces c (b ∷ bs) h = go (eqb b lineFeed) refl (fed-pieces [] bs cut-none)
+    (fed-pieces (cut (c ++ (b ∷ []))) bs (cut-short _ (cut-length (c ++ (b ∷ [])))))
   where
     go : (e : Bool) → eqb b lineFeed ≡ e → fed [] bs .lines ++ (fed [] bs .carry ∷ []) ≡ map cut (begun [] (pieces bs)) →
-        fed (cut (c ++ (b ∷ []))) bs .lines ++ (fed (cut (c ++ (b ∷ []))) bs .carry ∷ []) ≡ map cut (begun (cut (c ++ (b ∷ []))) (pieces bs)) →
+        fed (cut (c ++ (b ∷ []))) bs .lines ++ (fed (cut (c ++ (b ∷ []))) bs .carry ∷ [])
+        ≡ map cut (begun (cut (c ++ (b ∷ []))) (pieces bs)) →
         fed c (b ∷ bs) .lines ++ (fed c (b ∷ bs) .carry ∷ []) ≡ map cut (begun c (pieces (b ∷ bs)))
     go true e f g = rw (e, append-nil c, h, f, begun-none bs)
     go false e f g = rw (e, begun-begun c (b ∷ []) (pieces bs)) (g ∙ cut-begun (c ++ (b ∷ [])) (pieces bs))
@@ -104,4 +91,5 @@ counted-cut (p ∷ q ∷ qs) = ap (λ (xs : List (List ℕ)). cut p ∷ xs) (cou
 pub whole-lines : (t : List ℕ) → fed [] t .lines ++ ended (fed [] t .carry) ≡ map cut (linesOf t)
 unfolding linesOf
 whole-lines t =
-    sym (counted-last (fed [] t .lines) (fed [] t .carry)) ∙ ap counted (fed-pieces [] t cut-none ∙ ap (map cut) (begun-none t)) ∙ counted-cut (pieces t)
+    sym (counted-last (fed [] t .lines) (fed [] t .carry)) ∙ ap counted (fed-pieces [] t cut-none ∙ ap (map cut) (begun-none t))
+    ∙ counted-cut (pieces t)

@@ -5,7 +5,8 @@ ghost use Rattle.common.specs.Words.{_≡_, _+_, _-_, _≤_, min, length};
 ghost use Rattle.common.specs.Stores.{part};
 ghost use Rattle.lines.specs.Lines.{kept};
 ghost use Rattle.lines.specs.Ends.{stride, feedIn, endOf};
-ghost use Rattle.lines.specs.Held.{keptOf, heldOf, joinedOf, joinedIn, lineOf};
+ghost use Rattle.lines.specs.Strides.{skipOf};
+ghost use Rattle.lines.specs.Held.{keptOf, heldOf, joinedOf, joinedIn, LineGives};
 
 pub const KEPT: usize = 101;
 
@@ -28,9 +29,9 @@ fn near(piece: &[u8], from: usize) -> bool
     seen
 }
 
-// Passes over strides that have no line feed: from the place that it answers on, the first line feed is the same.
+// Passes over whole strides that have no line feed, up to the first that has one or is cut short by the block's end.
 fn skip(piece: &[u8], from: usize) -> usize
-    ensures { λ r. ⌜ endOf (now (piece .entry)) r ≡ endOf (now (piece .entry)) from ⌝ }
+    ensures { λ r. ⌜ r ≡ skipOf (now (piece .entry)) from ⌝ }
 {
     let mut i = from;
     while i < piece.len() {
@@ -93,7 +94,7 @@ pub fn join(held: &mut [u8], used: usize, piece: &[u8], from: usize, to: usize) 
 // The line, where it stands.
 pub fn line_of<'a>(held: &'a [u8], n: usize, piece: &'a [u8], from: usize, to: usize) -> &'a [u8]
     requires { ⌜ (n ≤ length (now held)) × (from ≤ to) × (to ≤ length (now piece)) ⌝ }
-    ensures { λ r. ⌜ now r ≡ lineOf (now (held .entry)) n (part (now (piece .entry)) from (to - from)) ⌝ }
+    ensures { λ r. ⌜ LineGives (held .entry) n (piece .entry) from to r ⌝ }
 {
     if 0 < n {
         return &held[..n];

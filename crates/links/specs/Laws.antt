@@ -12,10 +12,12 @@ use Rattle.phrases.specs.Laws.{link-kind-moves, place-moves, arrow-moves, word-
 use Rattle.rows.specs.Rows.{Row}
 use Rattle.rows.specs.Said.{Said, Rule, quiet, _⨟_, optionally, repeat, put, apart}
 use Rattle.rows.specs.States.{State, does}
-use Rattle.rows.specs.Laws.{MovesOn, moved-onward, moves-quiet, moves-put, moves-apart, moves-repeat, advances-on, by-went, does-then, does-then-at, does-on, does-off, optionally-off, moves-optionally}
+use Rattle.rows.specs.Laws.{MovesOn, moved-onward, moves-quiet, moves-put, moves-apart, moves-repeat, advances-on, by-went}
+use Rattle.rows.specs.Laws.{does-then, does-then-at, does-on, does-off, optionally-off, moves-optionally}
 use Rattle.properties.specs.Properties.{ofPort, maybeBlockIn}
 use Rattle.properties.specs.Laws.{maybe-block-moves}
-use Rattle.links.specs.Links.{ends, sending, receiving, pointed, timingBy, linked, declared, link, otherKind, connectionOf, labelIn, connection, connectionKind, connections}
+use Rattle.links.specs.Links.{ends, sending, receiving, pointed, timingBy, linked, declared, link, otherKind}
+use Rattle.links.specs.Links.{connectionOf, labelIn, connection, connectionKind, connections}
 
 -- a connection's Timing
 pub timing-block : (t : ℕ) (d : Bool) → (t ≡ 0 → ⊥) → t ≡ timingBy t d
@@ -38,7 +40,8 @@ module _ (p start n : ℕ) (s : State) where
   link-by h e =
       ap (λ (t : State). does (does t (quiet (the SEMICOLON))) h) (does-then s (quiet (λ us. ends (On us))) (maybeBlockIn ofPort))
       ∙ ap (λ (t : State). does t h) (does-then s (λ ps ts. quiet (λ us. ends (On us)) ps ts ⨟ maybeBlockIn ofPort) (quiet (the SEMICOLON)))
-      ∙ does-then-at s (λ ps ts. quiet (λ us. ends (On us)) ps ts ⨟ maybeBlockIn ofPort ⨟ quiet (the SEMICOLON)) h (λ ts. declared p start n (On ts)) e
+      ∙ does-then-at s (λ ps ts. quiet (λ us. ends (On us)) ps ts ⨟ maybeBlockIn ofPort ⨟ quiet (the SEMICOLON)) h
+      (λ ts. declared p start n (On ts)) e
 
   abbrev pub between : Bool
   between = pointed (sending (s .went)) && pointed (receiving (s .went))
@@ -47,7 +50,8 @@ module _ (p start n : ℕ) (s : State) where
   pub link-between : between ≡ true → does whole (put (linked p start n (s .went))) ≡ does s (link p start n)
   unfolding declared optionally does
   link-between b =
-      by-went (λ (t : State). does t (put (linked p start n (s .went))) ≡ does t (declared p start n (s .went))) (λ ts qs x t. rw b) (λ f qs x t. refl) whole
+      by-went (λ (t : State). does t (put (linked p start n (s .went))) ≡ does t (declared p start n (s .went)))
+      (λ ts qs x t. rw b) (λ f qs x t. refl) whole
       ∙ link-by (declared p start n (s .went)) (λ ts w. ap (declared p start n) w)
 
   pub link-passed : between ≡ false → whole ≡ does s (link p start n)
@@ -68,7 +72,8 @@ module _ (p start n : ℕ) (s : State) where
       kinds-on (On ts) h = h
       kinds-on (Stop f) h = h
 
-  pub between-does : otherKind (firstKind (s .went)) (secondKind (s .went)) ≡ false → does s (apart (link p start n)) ≡ does s (connectionOf p start n)
+  pub between-does : otherKind (firstKind (s .went)) (secondKind (s .went)) ≡ false →
+      does s (apart (link p start n)) ≡ does s (connectionOf p start n)
   unfolding connectionOf
   between-does h = does-off (λ ts. otherKind (next ts) (second ts)) (quiet wordAndRest) (apart (link p start n)) s (kinds-off (s .went) h)
     where
@@ -85,7 +90,8 @@ pub connection-does : (p : ℕ) (s : State) →
     does (does s (quiet maybeLabel)) (connectionOf p (first (s .went) .start) (labelIn (s .went))) ≡ does s (connection p)
 unfolding connection
 connection-does p s =
-    does-then-at s (quiet maybeLabel) (connectionOf p (first (s .went) .start) (labelIn (s .went))) (λ ts. connectionOf p (head ts .start) (labelIn (On ts)))
+    does-then-at s (quiet maybeLabel) (connectionOf p (first (s .went) .start) (labelIn (s .went)))
+    (λ ts. connectionOf p (head ts .start) (labelIn (On ts)))
     (λ ts w. ap (λ (x : Step). connectionOf p (first x .start) (labelIn x)) w)
 
 -- ## How far they go
@@ -100,7 +106,8 @@ link-moves p start n ps ts =
     moved-onward _ (declared p start n (On ts))
     (moved-onward _ (quiet (the SEMICOLON)) (moved-onward _ (maybeBlockIn ofPort) (ends-moves ts) (maybe-block-moves ofPort))
     (moves-quiet (the SEMICOLON) (moves-the SEMICOLON (λ e. omega arith))))
-    (moves-optionally (λ us. pointed (sending (On ts)) && pointed (receiving (On ts))) (put (linked p start n (On ts))) (moves-put (linked p start n (On ts))))
+    (moves-optionally (λ us. pointed (sending (On ts)) && pointed (receiving (On ts)))
+    (put (linked p start n (On ts))) (moves-put (linked p start n (On ts))))
 
 connection-of-moves : (p start n : ℕ) → MovesOn 1 (connectionOf p start n)
 unfolding connectionOf
@@ -111,8 +118,10 @@ connection-of-moves p start n ps ts =
 pub connection-moves : (p : ℕ) → MovesOn 1 (connection p)
 unfolding connection
 connection-moves p ps ts =
-    moved-onward _ (connectionOf p (head ts .start) (labelIn (On ts))) (maybe-label-moves ts) (connection-of-moves p (head ts .start) (labelIn (On ts)))
+    moved-onward _ (connectionOf p (head ts .start) (labelIn (On ts))) (maybe-label-moves ts)
+    (connection-of-moves p (head ts .start) (labelIn (On ts)))
 
 pub connections-moves : (p : ℕ) → MovesOn 0 (connections p)
 unfolding connections
-connections-moves p = moves-repeat (λ ts. connectionKind (next ts)) (connection p) (advances-on (λ ts. connectionKind (next ts)) (connection p) (connection-moves p))
+connections-moves p = moves-repeat (λ ts. connectionKind (next ts)) (connection p)
+    (advances-on (λ ts. connectionKind (next ts)) (connection p) (connection-moves p))

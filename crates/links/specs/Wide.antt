@@ -9,14 +9,17 @@ use Rattle.rows.specs.Said.{quiet, put}
 use Rattle.rows.specs.Wide.{Wide, WideOn, wide-silent, wide-quiet, wide-put, wide-onward, wide-optionally, wide-apart, wide-repeat}
 use Rattle.properties.specs.Properties.{ofPort, maybeBlockIn}
 use Rattle.properties.specs.Wide.{maybe-block-wide}
-use Rattle.links.specs.Links.{sending, receiving, ends, pointed, linked, declared, link, otherKind, connectionOf, labelIn, connection, connectionKind, connections}
+use Rattle.links.specs.Links.{sending, receiving, ends, pointed, linked, declared, link, otherKind, connectionOf, labelIn}
+use Rattle.links.specs.Links.{connection, connectionKind, connections}
 
 link-wide : (p start n : ℕ) → WideOn (link p start n)
 unfolding link declared linkRow
 link-wide p start n ps ts =
     wide-onward _ (declared p start n (On ts))
-    (wide-onward _ (quiet (the SEMICOLON)) (wide-onward _ (maybeBlockIn ofPort) (wide-quiet (λ us. ends (On us)) ps ts) (maybe-block-wide ofPort)) (wide-quiet (the SEMICOLON)))
-    (wide-optionally (λ us. pointed (sending (On ts)) && pointed (receiving (On ts))) (put (linked p start n (On ts))) (wide-put (linked p start n (On ts)) (λ qs. refl)))
+    (wide-onward _ (quiet (the SEMICOLON)) (wide-onward _ (maybeBlockIn ofPort) (wide-quiet (λ us. ends (On us)) ps ts) (maybe-block-wide ofPort))
+    (wide-quiet (the SEMICOLON)))
+    (wide-optionally (λ us. pointed (sending (On ts)) && pointed (receiving (On ts)))
+    (put (linked p start n (On ts))) (wide-put (linked p start n (On ts)) (λ qs. refl)))
 
 connection-of-wide : (p start n : ℕ) → WideOn (connectionOf p start n)
 unfolding connectionOf
@@ -26,7 +29,8 @@ connection-of-wide p start n ps ts =
 connection-wide : (p : ℕ) → WideOn (connection p)
 unfolding connection
 connection-wide p ps ts =
-    wide-onward _ (connectionOf p (head ts .start) (labelIn (On ts))) (wide-quiet maybeLabel ps ts) (connection-of-wide p (head ts .start) (labelIn (On ts)))
+    wide-onward _ (connectionOf p (head ts .start) (labelIn (On ts))) (wide-quiet maybeLabel ps ts)
+    (connection-of-wide p (head ts .start) (labelIn (On ts)))
 
 pub connections-wide : (p : ℕ) → WideOn (connections p)
 unfolding connections

@@ -101,7 +101,8 @@ fn link(
     start: usize,
     named: usize,
 ) -> Reading
-    ensures { λ r. ⌜ stateOf (now (text .entry)) r (now (rows .exit)) ≡ does (stateOf (now (text .entry)) reading (now (rows .entry))) (link process start named) ⌝ }
+    ensures { λ r. ⌜ stateOf (now (text .entry)) r (now (rows .exit))
+        ≡ does (stateOf (now (text .entry)) reading (now (rows .entry))) (link process start named) ⌝ }
 {
     let went = reading.went;
     let ends = ends_of(text, went);
@@ -163,7 +164,8 @@ fn connection_of(
     start: usize,
     named: usize,
 ) -> Reading
-    ensures { λ r. ⌜ stateOf (now (text .entry)) r (now (rows .exit)) ≡ does (stateOf (now (text .entry)) reading (now (rows .entry))) (connectionOf process start named) ⌝ }
+    ensures { λ r. ⌜ stateOf (now (text .entry)) r (now (rows .exit))
+        ≡ does (stateOf (now (text .entry)) reading (now (rows .entry))) (connectionOf process start named) ⌝ }
 {
     let went = reading.went;
     let props = reading.props;
@@ -186,7 +188,8 @@ fn label_at(text: &[u8], went: Went) -> usize
 
 // [ NAME ":" ] ( port_kind .. | other_kind rest )
 fn connection(text: &[u8], rows: &mut [usize], reading: Reading, process: usize) -> Reading
-    ensures { λ r. ⌜ stateOf (now (text .entry)) r (now (rows .exit)) ≡ does (stateOf (now (text .entry)) reading (now (rows .entry))) (connection process) ⌝ }
+    ensures { λ r. ⌜ stateOf (now (text .entry)) r (now (rows .exit))
+        ≡ does (stateOf (now (text .entry)) reading (now (rows .entry))) (connection process) ⌝ }
 {
     let went = reading.went;
     let start = start_of(text, went);
@@ -234,7 +237,8 @@ fn begins_connection(kind: usize) -> bool
 
 // { connection }
 pub fn connections(text: &[u8], rows: &mut [usize], reading: Reading, process: usize) -> Reading
-    ensures { λ r. ⌜ stateOf (now (text .entry)) r (now (rows .exit)) ≡ does (stateOf (now (text .entry)) reading (now (rows .entry))) (connections process) ⌝ }
+    ensures { λ r. ⌜ stateOf (now (text .entry)) r (now (rows .exit))
+        ≡ does (stateOf (now (text .entry)) reading (now (rows .entry))) (connections process) ⌝ }
 {
     let mut r = reading;
     while begins_connection(next_of(text, r)) {

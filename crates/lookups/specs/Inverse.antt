@@ -1,6 +1,7 @@
 -- The lookups among each other: number and way back invert each other wherever either answers, and a window answers the numbers of the
 -- messages with deadlines after the job's previous release and not after its own.
-use Rattle.common.specs.Words.{ℕ, _-_, _*_, _<_, _≤_, arith, pos-of-ne-zero, zero-mul, false, not, _↔_, _≡_, ltb, ltb-true, ltb-false, lt-ltb}
+use Rattle.common.specs.Words.{ℕ, _-_, _*_, _<_, _≤_, arith, pos-of-ne-zero, zero-mul, true, false, not, _↔_, _≡_, ltb, ltb-true}
+use Rattle.common.specs.Words.{ltb-false, lt-ltb}
 use Rattle.common.specs.Words.{le-ltb, eqb-false, ne-eqb, not-false}
 use Rattle.common.specs.Tests.{having}
 use Rattle.model.specs.Model.{Sender, receiverPeriod, released, deadlineOf, number, upTo, senderOf, jobOf, first, last}
@@ -133,8 +134,9 @@ module _ (p : Plan) (q : ℕ) where
   -- ## Windows
 
   -- "job 0: 1 and 0", on every plan and queue that is there
-  pub window-job-0 : Counted p q → windowOf p q (job 0) ≡ Window.Numbers (message 1) (message 0)
-  window-job-0 c =
+  pub window-job-0 : soundPlan p ≡ true → q < p .queues → windowOf p q (job 0) ≡ Window.Numbers (message 1) (message 0)
+  window-job-0 s l =
+      let c : Counted p q = record { sound = sound-iff p .0 s; queue = l } in
       having (window-zero (queueAt p q) (usable (c .sound) q (c .queue) .valid))
       (λ w.
       window-answers (job 0) (message 1) (message 0) .1 (record {
@@ -147,7 +149,8 @@ module _ (p : Plan) (q : ℕ) where
   -- a window's numbers are those of the messages with deadlines in ((m-1)R, mR]
   pub window-numbers : (m : Job) (a b : Number) → windowOf p q m ≡ Window.Numbers a b → (i k : ℕ) → Sender (queueAt p q) i →
       ((a .0 ≤ number (queueAt p q) i k) × (number (queueAt p q) i k ≤ b .0)) ↔
-      (((m .0 - 1) * receiverPeriod (queueAt p q) < deadlineOf (queueAt p q) i k) × (deadlineOf (queueAt p q) i k ≤ m .0 * receiverPeriod (queueAt p q)))
+      (((m .0 - 1) * receiverPeriod (queueAt p q) < deadlineOf (queueAt p q) i k)
+      × (deadlineOf (queueAt p q) i k ≤ m .0 * receiverPeriod (queueAt p q)))
   window-numbers m a b e i k s =
       having (window-answers m a b .0 e)
       (λ w.

@@ -5,9 +5,10 @@ use Rattle.model.specs.Model.{receiverPeriod, released, deadlineOf, number, upT
 use Rattle.calendar.specs.Calendar.{job, message}
 use Rattle.lookups.specs.Types.{Job, Number, Plan, Rule, Numbered, Origins, Window}
 use Rattle.plan.specs.Limits.{lastTick}
-use Rattle.plan.specs.Plan.{queueAt}
+use Rattle.plan.specs.Queues.{queueAt}
 use Rattle.plan.specs.Refusals.{Line, unnamed, _gives_, judged}
 use Rattle.plan.specs.Rules.{soundPlan, connected}
+use Rattle.plan.specs.Says.{Said, refusedSays}
 
 -- "The number lookup takes a queue, a task and a job and answers the number"
 abbrev pub numberLines : Plan → ℕ → ℕ → Job → List Line
@@ -48,3 +49,19 @@ unfoldable pub windowOf : Plan → ℕ → Job → Window
 windowOf p q m =
     judged (windowLines p q m) Window.Refused
     (Window.Numbers (message (first (queueAt p q) (m .0))) (message (last (queueAt p q) (m .0))))
+
+-- The answers in document 01's numbers. The console has no line for them, so an answer that is no refusal has code 0 and its values:
+-- the number,
+abbrev pub numberedSays : Numbered → Said
+numberedSays (Numbered.Is n) = (0, n .0 ∷ [])
+numberedSays (Numbered.Refused r) = refusedSays r
+
+-- sender and job,
+abbrev pub originsSays : Origins → Said
+originsSays (Origins.From i k) = (0, i ∷ k .0 ∷ [])
+originsSays (Origins.Refused r) = refusedSays r
+
+-- first and last number
+abbrev pub windowSays : Window → Said
+windowSays (Window.Numbers a b) = (0, a .0 ∷ b .0 ∷ [])
+windowSays (Window.Refused r) = refusedSays r

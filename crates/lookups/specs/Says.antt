@@ -1,29 +1,14 @@
--- What the lookups answer in document 01's numbers. The console has no line for them, so an answer that is no refusal has code 0 and its
--- values.
+-- What the lookups answer in document 01's numbers, line by line.
 use Rattle.common.specs.Words.{ℕ, cond, not, [], _∷_, _≡_, ltb, eqb}
 use Rattle.model.specs.Model.{receiverPeriod, released, deadlineOf, number, upTo, senderOf, jobOf, first, last}
 use Rattle.lookups.specs.Types.{Job, Number, Plan, Numbered, Origins, Window}
 use Rattle.plan.specs.Limits.{lastTick}
 use Rattle.plan.specs.Plan.{queueAt}
-use Rattle.plan.specs.Says.{Said, refusedSays, no}
+use Rattle.plan.specs.Says.{no}
 use Rattle.plan.specs.Verdicts.{judged-map}
 use Rattle.plan.specs.Rules.{soundPlan, connected}
 use Rattle.lookups.specs.Lookups.{numberLines, numberedOf, originLines, originsOf, windowLines, windowOf}
-
--- the number
-abbrev pub numberedSays : Numbered → Said
-numberedSays (Numbered.Is n) = (0, n .0 ∷ [])
-numberedSays (Numbered.Refused r) = refusedSays r
-
--- sender and job
-abbrev pub originsSays : Origins → Said
-originsSays (Origins.From i k) = (0, i ∷ k .0 ∷ [])
-originsSays (Origins.Refused r) = refusedSays r
-
--- first and last number
-abbrev pub windowSays : Window → Said
-windowSays (Window.Numbers a b) = (0, a .0 ∷ b .0 ∷ [])
-windowSays (Window.Refused r) = refusedSays r
+pub use Rattle.lookups.specs.Lookups.{numberedSays, originsSays, windowSays}
 
 -- "lookups 7, 9, then 11 or 15"
 pub number-says : (p : Plan) (q i : ℕ) (k : Job) →

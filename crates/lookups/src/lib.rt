@@ -6,8 +6,7 @@ use plan::Plan;
 use plan::refusal::Refusal;
 use plan::refusal::Rule;
 use soundness::sound;
-ghost use Rattle.common.specs.Words.{_≡_};
-ghost use Rattle.lookups.specs.Lookups.{numberedOf, originsOf, windowOf};
+ghost use Rattle.lookups.specs.Unique.{NumberGives, WayBackGives, WindowGives};
 
 pub enum Numbered {
     Is(Number),
@@ -28,7 +27,7 @@ pub enum Window {
 
 // The number of the message that a task's job sends into a queue.
 pub fn number_of(plan: Plan, queue: usize, task: usize, job: Job) -> Numbered
-    ensures { λ r. ⌜ r ≡ numberedOf plan queue task job ⌝ }
+    ensures { λ r. ⌜ NumberGives plan queue task job r ⌝ }
 {
     if !sound(plan) {
         return Numbered::Refused(Refusal {
@@ -54,7 +53,7 @@ pub fn number_of(plan: Plan, queue: usize, task: usize, job: Job) -> Numbered
 
 // The sender and the job of a queue's message.
 pub fn way_back(plan: Plan, queue: usize, n: Number) -> Origins
-    ensures { λ r. ⌜ r ≡ originsOf plan queue n ⌝ }
+    ensures { λ r. ⌜ WayBackGives plan queue n r ⌝ }
 {
     if !sound(plan) {
         return Origins::Refused(Refusal {
@@ -87,7 +86,7 @@ pub fn way_back(plan: Plan, queue: usize, n: Number) -> Origins
 
 // The numbers of the messages that a job of the queue's receiver is given.
 pub fn window_of(plan: Plan, queue: usize, job: Job) -> Window
-    ensures { λ r. ⌜ r ≡ windowOf plan queue job ⌝ }
+    ensures { λ r. ⌜ WindowGives plan queue job r ⌝ }
 {
     if !sound(plan) {
         return Window::Refused(Refusal {

@@ -68,10 +68,10 @@ start-keeps p m r e = kept (startLines p m) m _ r (start-refused p m r .0 e)
 pub send-keeps : (s : State) (p : Plan) (m : List ℕ) (q i t : ℕ) (payload : List ℕ) (r : Refusal) →
     sendAnswer s p m q i t payload ≡ Sent.Refused r → (sendState s p m q i t payload ≡ s) × (sendMemory s p m q i t payload ≡ m)
 unfolding sendState running.sendMemory
-send-keeps s p m q i t payload r e =
-    let f = send-refused s p m q i t payload r .0 e in
-    let lines = sendLines s p m q i t payload in
-    (kept lines s _ r f, kept lines m _ r f)
+send-keeps s p m q i t payload r e = (
+  rw e,
+  kept (sendLines s p m q i t payload) m _ r (send-refused s p m q i t payload r .0 e),
+)
 
 pub receive-keeps : (s : State) (p : Plan) (m : List ℕ) (q t : ℕ) (r : Refusal) → look s p m q t ≡ Received.Refused r → receiveState s p m q t ≡ s
 unfolding receiveState

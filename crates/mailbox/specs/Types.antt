@@ -5,7 +5,9 @@ pub use Rattle.plan.specs.declared.Plan.{Plan}
 pub use Rattle.plan.specs.declared.refusal.Refusal.{Refusal}
 pub use Rattle.plan.specs.declared.refusal.Verdict.{Verdict}
 pub use Rattle.running.specs.declared.Received.{Received}
+pub use Rattle.running.specs.declared.ReceivedAt.{ReceivedAt}
 pub use Rattle.running.specs.declared.Sent.{Sent}
+pub use Rattle.running.specs.declared.SentAt.{SentAt}
 pub use Rattle.running.specs.declared.Started.{Started}
 pub use Rattle.mailbox.specs.declared.Receiving.{Receiving}
 pub use Rattle.mailbox.specs.declared.Sending.{Sending}

@@ -1,9 +1,9 @@
 // The mailbox: the running calls start, send and receive, over a plan, a state and slots in lent memory. Each call tests what it is handed
-// and answers; a refused call gives back state and memory as they were. What a call answers is reckoned in the crate `running`, from the
-// numbers that it looks at in the state.
+// and answers; a refused call gives back state and memory as they were. What a call answers and leaves is reckoned in the crate `running`,
+// which is lent the column of the state that the call changes.
 pub mod start; // start.rt: the fresh state, and start
 pub mod send; // send.rt: send
-pub mod receive; // receive.rt: receive, a look and a step on
+pub mod receive; // receive.rt: receive
 
 use calendar::Tick;
 use plan::Plan;

@@ -4,8 +4,8 @@ use crate::State;
 use calendar::Tick;
 use plan::Plan;
 ghost use Rattle.common.specs.Words.{_≡_};
-ghost use Rattle.mailbox.specs.Calls.{fresh, startMemory};
-ghost use Rattle.mailbox.specs.Outcomes.{starting};
+ghost use Rattle.mailbox.specs.Calls.{fresh};
+ghost use Rattle.mailbox.specs.Outcomes.{StartGives};
 
 impl State {
     // Nothing sent, nothing read, tick 0.
@@ -21,7 +21,7 @@ impl State {
 
     // Clears the plan's slots. A refused start gives the fresh state too, and touches no byte.
     pub fn start(plan: Plan, memory: &mut [u8]) -> Starting
-        ensures { λ r. ⌜ (r ≡ starting plan (now (memory .entry))) × (now (memory .exit) ≡ startMemory plan (now (memory .entry))) ⌝ }
+        ensures { λ r. ⌜ StartGives plan (now (memory .entry)) r (now (memory .exit)) ⌝ }
     {
         Starting {
             answer: running::start::started(plan, memory),

@@ -1,7 +1,8 @@
 -- Equation 3 is a bound that needs no hyperperiod: it is fit, so the least fit size is never above it.
 use Rattle.common.specs.Words.{ℕ, _+_, _/_, _<_, _≤_, arith, le-refl}
 use Rattle.common.specs.Totals.{only, sum, only-le, only-add, sum-add, sum-le, most-le}
-use Rattle.model.specs.Model.{Queue, Valid, Sender, Fit, countOf, upTo, releaseOf, deadlineOf, horizon, outdated, slots, reach, equation3}
+use Rattle.model.specs.Model.{Queue, Valid, Sender, countOf, upTo, releaseOf, deadlineOf, horizon, outdated, slots}
+use Rattle.model.specs.Source.{Fit, reach, equation3}
 use Rattle.model.specs.Count.{count-within}
 use Rattle.model.specs.Order.{period-pos}
 use Rattle.model.specs.Number.{upTo-mono, number-below}

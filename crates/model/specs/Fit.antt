@@ -1,7 +1,8 @@
 -- When a size is fit: a test for each message by itself. Every size above a fit one is fit, and 0 is not.
 use Rattle.common.specs.Words.{ℕ, _+_, _-_, _<_, _≤_, arith, lt-of-not-le, not-le-of-lt, _↔_, ⊎-elim}
 use Rattle.common.specs.Tests.{lt-or-le, having}
-use Rattle.model.specs.Model.{Queue, Valid, Sender, Fit, upTo, releaseOf, deadlineOf, number, outdatedAt, horizon, outdated}
+use Rattle.model.specs.Model.{Queue, Valid, Sender, upTo, releaseOf, deadlineOf, number, horizon, outdated}
+use Rattle.model.specs.Source.{Fit, outdatedAt}
 use Rattle.model.specs.Order.{deadline-positive}
 use Rattle.model.specs.Number.{number-iff, number-onto}
 use Rattle.model.specs.Outdating.{outdated-iff, outdated-after}
@@ -23,7 +24,8 @@ module _ (q : Queue) (v : Valid q) where
   -- a message is not among those that are outdated when its job is released
   pub outdated-less : (i k : ℕ) → Sender q i → outdated q (releaseOf q i k) < number q i k
   outdated-less i k s =
-      lt-of-not-le (λ g. not-le-of-lt (v .deadline-pos i (s .row)) (omega (arith, outdated-counts i k (releaseOf q i k) s .0 g, outdated-after q v (deadlineOf q i k))))
+      lt-of-not-le (λ g. not-le-of-lt (v .deadline-pos i (s .row))
+      (omega (arith, outdated-counts i k (releaseOf q i k) s .0 g, outdated-after q v (deadlineOf q i k))))
 
   -- the test that a program can make of one message after the other
   pub fit-iff : (L : ℕ) → Fit q L ↔ ((i k : ℕ) → Sender q i → Free q L i k)

@@ -1,9 +1,11 @@
 -- The greatest common divisor by Euclid's rule: the two rules that determine it, and what it is.
-use Rattle.common.specs.Words.{_≡_, refl, sym, ap, _∙_, false, cond, ⊎-elim, ℕ, zero, suc, _+_, _*_, _/_, _%_, _<_, _∣_, not-suc-le-zero, mod-lt}
+use Rattle.common.specs.Words.{_≡_, refl, sym, ap, _∙_, false, cond, ⊎-elim, ℕ, zero, suc, _+_, _*_, _/_, _%_, _<_, not-suc-le-zero}
+use Rattle.common.specs.Words.{mod-lt}
 use Rattle.common.specs.Words.{eq-zero-or-pos, dvd-refl, dvd-zero, dvd-mod-iff, zero-mul, mul-pos, add-mul, mul-assoc, mul-lt-mul-of-pos-right}
 use Rattle.common.specs.Words.{div-add-mod', arith, eq-eqb, ne-eqb, eqb}
 use lib.Arith.{digits-mod}
 use Rattle.model.specs.Model.{euclid, gcd}
+use Rattle.model.specs.Source.{IsGcd}
 
 -- more steps change nothing
 enough : (n m a b : ℕ) → b < n → b < m → euclid n a b ≡ euclid m a b
@@ -27,12 +29,7 @@ gcd-step a b p =
     let f : eqb b 0 ≡ false = ne-eqb b 0 (λ (e : b ≡ 0). omega arith) in
     rw f (enough b (suc (a % b)) b (a % b) l (omega arith))
 
--- it divides both, and what divides both divides it: by Euclid's rule, at most n times
-pub record IsGcd (a b g : ℕ) : Type 0 where
-  pub left : g ∣ a
-  pub right : g ∣ b
-  pub most : (d : ℕ) → d ∣ a → d ∣ b → d ∣ g
-
+-- by Euclid's rule, at most n times
 by-steps : (n a b : ℕ) → b < n → IsGcd a b (gcd a b)
 by-steps zero a b h = absurd (not-suc-le-zero h)
 by-steps (suc n) a b h =

@@ -2,8 +2,9 @@
 use Rattle.common.specs.Words.{ℕ, _+_, _-_, _/_, _≤_, arith, true, false, ⊎-elim, _≡_, _∙_}
 use Rattle.common.specs.Tests.{true-or-false}
 use Rattle.common.specs.Totals.{only, only-eq, only-add, sum-ext, sum-add}
-use Rattle.model.specs.Model.{Queue, Valid, Sender, CommonMultiple, receiverPeriod, messages, countOf, upTo, releaseOf, deadlineOf}
-use Rattle.model.specs.Model.{number, precedes, jobsBefore, horizon, wantedFor, outdated}
+use Rattle.model.specs.Model.{Queue, Valid, Sender, receiverPeriod, messages, countOf, upTo, releaseOf, deadlineOf}
+use Rattle.model.specs.Model.{number, precedes, horizon, wantedFor, outdated}
+use Rattle.model.specs.Source.{CommonMultiple, jobsBefore}
 use Rattle.model.specs.Count.{count-hyper}
 use Rattle.model.specs.Order.{period-pos, deadline-positive}
 use Rattle.model.specs.Number.{upTo-mono, number-counts}

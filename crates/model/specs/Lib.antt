@@ -1,5 +1,6 @@
 -- The pages of this crate's definitions and laws.
 pub mod Model
+pub mod Source
 pub mod Count
 pub mod Ties
 pub mod Order

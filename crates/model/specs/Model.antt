@@ -1,34 +1,25 @@
--- The periodic-delayed model: what this project means by a message's number, its window, its slots.
--- It follows source 000 (Cadoret and others), sections II and III, as document 01 words them. Each definition stands under the sentence
--- or equation that it writes down. There are definitions only, and all of them compute; the laws stand in the files beside this one.
+-- The periodic-delayed model, after source 000 (Cadoret and others), sections II and III, as document 01 words it: a message's number, its
+-- window, its slots, each under the sentence or equation that it writes down. There are definitions only, and all of them compute.
 -- Ticks, jobs and slots count from 0, message numbers from 1. A message is two numbers: its sender's row i and its job k.
--- Totals over the rows are `sum f rows` and `most f rows` (the greatest) of common's Totals; `only b n` is n where b is true, else 0.
--- `firstBad t n` of common's Rows is the first number below n that fails the test t, and n where none does.
 -- Three rules stand alone, because requests will change them: `hasDeadline`, `precedes` and `wantedFor`.
-use Rattle.common.specs.Words.{ℕ, zero, suc, _+_, _-_, _*_, _/_, _%_, _<_, _≤_, Bool, true, cond, not, _&&_, _⊎_, _≡_, leb, ltb, eqb}
-use Rattle.common.specs.Totals.{only, sum, most}
-use Rattle.common.specs.Rows.{firstBad}
+use Rattle.common.specs.Words.{ℕ, zero, suc, _+_, _-_, _*_, _/_, _%_, _<_, _≤_, Bool, true, cond, not, _&&_, _≡_, leb, ltb, eqb}
+use Rattle.common.specs.Terms.{only, sum, most, firstBad}
+unfoldable pub use Rattle.common.specs.Terms.{euclid, gcd, lcm}
 
--- ## One task, with period P and deadline D
-
--- "Job k (from 0) is released at kP,
+-- One task, with period P and deadline D. "Job k (from 0) is released at kP, has its deadline at kP + D."
 abbrev pub released : ℕ → ℕ → ℕ
 released P k = k * P
 
--- has its deadline at kP + D."
 abbrev pub due : ℕ → ℕ → ℕ → ℕ
 due P D k = k * P + D
 
--- Equation 1, one task's share: how many of its jobs have their deadline at or before t.
--- "Before tick 0 the count is 0", and so it is before the first deadline.
+-- Equation 1, one task's share: its jobs with deadlines up to t. "Before tick 0 the count is 0", and so it is before the first deadline.
 unfoldable pub count : ℕ → ℕ → ℕ → ℕ
 count P D t = cond (ltb t D) 0 ((t - D) / P + 1)
 
 -- Collide(s, t): one of its jobs has its deadline at t.
 unfoldable pub hasDeadline : ℕ → ℕ → ℕ → Bool
 hasDeadline P D t = leb D t && eqb ((t - D) % P) 0
-
--- ## A queue
 
 -- "A queue has one receiver and at least one sender." The tasks are the rows of a table, and each column is a function of the row.
 pub record Queue : Type 0 where
@@ -61,16 +52,9 @@ releaseOf q i k = released (q .period i) k
 abbrev pub deadlineOf : Queue → ℕ → ℕ → ℕ
 deadlineOf q i k = due (q .period i) (q .deadline i) k
 
--- ## Order and number
-
 -- Of two messages with equal deadlines row i's goes first: "equal deadlines by the senders' row order in the table."
 unfoldable pub precedes : Queue → ℕ → ℕ → Bool
 precedes q i j = ltb i j
-
--- Definition 1: message (i, k) goes before (j, l).
-abbrev pub Before : Queue → ℕ → ℕ → ℕ → ℕ → Type 0
-Before q i k j l =
-    (deadlineOf q i k < deadlineOf q j l) ⊎ ((deadlineOf q i k ≡ deadlineOf q j l) × (precedes q i j ≡ true))
 
 abbrev pub countOf : Queue → ℕ → ℕ → ℕ
 countOf q t j = count (q .period j) (q .deadline j) t
@@ -97,15 +81,7 @@ followers q t i = sum (rowFollowers q t i) (q .rows)
 unfoldable pub number : Queue → ℕ → ℕ → ℕ
 number q i k = upTo q (deadlineOf q i k) - followers q (deadlineOf q i k) i
 
--- "The number is the count of messages of that queue strictly before, plus one": row j's messages before (i, k) are its jobs below this
--- bound (law `before-iff`), and the number is one more than the sum of the bounds (law `number-counts`).
-unfoldable pub jobsBefore : Queue → ℕ → ℕ → ℕ → ℕ
-jobsBefore q i k j =
-    cond (precedes q j i) (countOf q (deadlineOf q i k) j) (countOf q (deadlineOf q i k - 1) j)
-
--- ## The way back from a number
-
--- The deadline of message n is the least tick with n messages up to it, here looked for up to a last tick,
+-- The way back from a number. The deadline of message n is the least tick with n messages up to it, here looked for up to a last tick,
 unfoldable pub tickOf : Queue → ℕ → ℕ → ℕ
 tickOf q lastTick n = firstBad (λ t. ltb (upTo q t) n) lastTick
 
@@ -118,22 +94,15 @@ senderOf q lastTick n = firstBad (λ i. not (sentBy q (tickOf q lastTick n) n i)
 
 -- and its job the one with that deadline.
 unfoldable pub jobOf : Queue → ℕ → ℕ → ℕ
-jobOf q lastTick n =
-    (tickOf q lastTick n - q .deadline (senderOf q lastTick n)) / q .period (senderOf q lastTick n)
+jobOf q lastTick n = (tickOf q lastTick n - q .deadline (senderOf q lastTick n)) / q .period (senderOf q lastTick n)
 
 -- ## Windows
-
--- "Job m of a receiver with period R has the window of all messages with deadlines in ((m-1)R, mR]": the numbers from `first` to `last`,
--- none where last < first. "Job 0's window is empty": 1 to 0.
+-- "Job m of a receiver with period R has the window of all messages with deadlines in ((m-1)R, mR]": numbers `first` to `last`, if any.
 unfoldable pub last : Queue → ℕ → ℕ
 last q m = upTo q (released (receiverPeriod q) m)
 
 abbrev pub first : Queue → ℕ → ℕ
 first q m = last q (m - 1) + 1
-
--- The receiver's job whose window has the deadline d: d / R rounded up.
-abbrev pub jobFor : Queue → ℕ → ℕ
-jobFor q d = (d + (receiverPeriod q - 1)) / receiverPeriod q
 
 -- "It is wanted until the receiver's job deadline, mR + the receiver's D": so long after the release of the job that is given it,
 unfoldable pub wantedFor : Queue → ℕ
@@ -141,10 +110,6 @@ wantedFor q = receiverDeadline q
 
 abbrev pub wantedUntil : Queue → ℕ → ℕ
 wantedUntil q m = released (receiverPeriod q) m + wantedFor q
-
--- "and outdated from that tick on": a message with deadline d.
-unfoldable pub outdatedAt : Queue → ℕ → ℕ
-outdatedAt q d = wantedUntil q (jobFor q d)
 
 -- The last deadline whose messages are outdated at tick r, and how many messages that makes (law `outdated-counts`).
 unfoldable pub horizon : Queue → ℕ → ℕ
@@ -154,46 +119,13 @@ unfoldable pub outdated : Queue → ℕ → ℕ
 outdated q r = upTo q (horizon q r)
 
 -- ## How many slots
-
--- "L is fit if for every n >= 1 the job sending n + L is released no earlier than the tick at which n is outdated."
--- Here n is the number of (i, k), and (j, l) has n + L.
-abbrev pub Fit : Queue → ℕ → Type 0
-Fit q L =
-    (i k j l : ℕ) → Sender q i → Sender q j → number q j l ≡ number q i k + L →
-    outdatedAt q (deadlineOf q i k) ≤ releaseOf q j l
-
--- Equation 3: "the sum over senders of floor((2R + greatest sender deadline) / P) + 1."
-unfoldable pub reach : Queue → ℕ
-reach q = 2 * receiverPeriod q + most (λ i. only (q .sends i) (q .deadline i)) (q .rows)
-
-unfoldable pub equation3 : Queue → ℕ
-equation3 q = sum (λ i. only (q .sends i) (reach q / q .period i + 1)) (q .rows)
-
--- "the greatest common divisor by Euclid's rule", at most n times; the second number falls, so b + 1 times are enough.
-unfoldable pub euclid : ℕ → ℕ → ℕ → ℕ
-euclid zero a b = a
-euclid (suc n) a b = cond (eqb b 0) a (euclid n b (a % b))
-
-unfoldable pub gcd : ℕ → ℕ → ℕ
-gcd a b = euclid (suc b) a b
-
-unfoldable pub lcm : ℕ → ℕ → ℕ
-lcm a b = a * (b / gcd a b)
-
--- "The hyperperiod of a queue is the least common multiple of the periods of its senders and its receiver":
--- the receiver's period joined with the senders' among the first n rows, and with all of them.
+-- "The hyperperiod of a queue is the least common multiple of the periods of its senders and its receiver": first of its first n rows.
 unfoldable pub multiple : Queue → ℕ → ℕ
 multiple q zero = receiverPeriod q
 multiple q (suc n) = cond (q .sends n) (lcm (multiple q n) (q .period n)) (multiple q n)
 
 unfoldable pub hyperperiod : Queue → ℕ
 hyperperiod q = multiple q (q .rows)
-
--- H holds each of these periods a whole number of times.
-pub record CommonMultiple (q : Queue) (H : ℕ) : Type 0 where
-  pub pos : 1 ≤ H
-  pub receiver : H / receiverPeriod q * receiverPeriod q ≡ H
-  pub row : (i : ℕ) → Sender q i → H / q .period i * q .period i ≡ H
 
 -- The messages of H ticks: row j's share, and the sum.
 abbrev pub rowMessages : Queue → ℕ → ℕ → ℕ

@@ -1,10 +1,12 @@
 -- The least common multiple of two numbers by the greatest common divisor, and of a queue's periods: its hyperperiod.
-use Rattle.common.specs.Words.{_≡_, refl, sym, ap, _∙_, Bool, true, false, cond, ⊎-elim, ℕ, zero, suc, _+_, _*_, _/_, _≤_, _<_, _∣_, le-refl}
+use Rattle.common.specs.Words.{_≡_, refl, sym, ap, _∙_, Bool, true, false, cond, ⊎-elim, ℕ, zero, suc, _+_, _*_, _/_, _≤_, _<_, _∣_}
+use Rattle.common.specs.Words.{le-refl}
 use Rattle.common.specs.Words.{le-trans, one-mul, mul-comm, mul-assoc, le-mul-of-pos-right, le-div-iff-mul-le, le-of-dvd, pos-of-dvd-of-pos}
 use Rattle.common.specs.Words.{dvd-refl, dvd-trans, dvd-mul-right, dvd-mul-left, mul-div-cancel', div-mul-cancel, mul-dvd-mul-left}
 use Rattle.common.specs.Words.{dvd-of-mul-dvd-mul-left, add-one, arith}
 use Rattle.common.specs.Tests.{lt-or-le}
-use Rattle.model.specs.Model.{Queue, Valid, Sender, CommonMultiple, gcd, lcm, multiple, hyperperiod, receiverPeriod}
+use Rattle.model.specs.Model.{Queue, Valid, Sender, gcd, lcm, multiple, hyperperiod, receiverPeriod}
+use Rattle.model.specs.Source.{CommonMultiple}
 use Rattle.model.specs.Gcd.{gcd-is, gcd-scaled}
 use Rattle.model.specs.Order.{period-pos}
 
@@ -78,7 +80,8 @@ module _ (q : Queue) (v : Valid q) where
   multiple-up : (n : ℕ) → n < q .rows → (multiple q n ≤ multiple q (suc n)) × (multiple q n ∣ multiple q (suc n))
   multiple-up n l = rw (multiple-next q n) (go (q .sends n))
     where
-      go : (b : Bool) → (multiple q n ≤ cond b (lcm (multiple q n) (q .period n)) (multiple q n)) × (multiple q n ∣ cond b (lcm (multiple q n) (q .period n)) (multiple q n))
+      go : (b : Bool) → (multiple q n ≤ cond b (lcm (multiple q n) (q .period n)) (multiple q n))
+          × (multiple q n ∣ cond b (lcm (multiple q n) (q .period n)) (multiple q n))
       go true = (lcm-grows (multiple q n) (q .period n) (multiple-pos n (omega arith)) (period-pos q v n l), lcm-left (multiple q n) (q .period n))
       go false = (le-refl (multiple q n), dvd-refl (multiple q n))
 

@@ -1,9 +1,11 @@
 -- Message numbers: equation 2 is one more than the count of the messages before. The numbers rise with the order, and each from 1 on
 -- belongs to exactly one message, whose deadline is the least tick with so many messages up to it.
-use Rattle.common.specs.Words.{ℕ, suc, _+_, _-_, _*_, _<_, _≤_, arith, ℕ-discrete, Bool, true, false, _↔_, ⊎-elim, _≡_, refl, sym, subst, _∙_, eqb}
+use Rattle.common.specs.Words.{ℕ, suc, _+_, _-_, _*_, _<_, _≤_, arith, ℕ-discrete, Bool, true, false, _↔_, ⊎-elim, _≡_, refl, sym}
+use Rattle.common.specs.Words.{subst, _∙_, eqb}
 use Rattle.common.specs.Totals.{only, sum, only-le, only-eq, only-most, only-zero, sum-le, sum-bound, sum-ext, sum-add}
 use Rattle.common.specs.Totals.{sum-one, sum-zero, sum-at, only-self, only-other, crossing}
-use Rattle.model.specs.Model.{Queue, Valid, Sender, hasDeadline, deadlineOf, countOf, upTo, dueAt, precedes, followers, number, Before, jobsBefore}
+use Rattle.model.specs.Model.{Queue, Valid, Sender, hasDeadline, deadlineOf, countOf, upTo, dueAt, precedes, followers, number}
+use Rattle.model.specs.Source.{Before, jobsBefore}
 use Rattle.common.specs.Tests.{lt-or-le, true-or-false, having, clash, and-left, and-right}
 use Rattle.common.specs.Rank.{size, rank, rank-less, rank-onto}
 use Rattle.model.specs.Count.{count-mono, count-before, count-le, count-own, count-tick, has-own, has-job}
@@ -54,14 +56,17 @@ module _ (q : Queue) (v : Valid q) where
             only (q .sends j) (countOf q (deadlineOf q i k) j) ≡
             only (dueAt q (deadlineOf q i k) j) (only (precedes q i j) 1) + only (q .sends j) (jobsBefore q i k j) + only (eqb j i) 1
 
-        tick : q .sends j ≡ true → countOf q (deadlineOf q i k) j ≡ countOf q (deadlineOf q i k - 1) j + only (hasDeadline (q .period j) (q .deadline j) (deadlineOf q i k)) 1
+        tick : q .sends j ≡ true → countOf q (deadlineOf q i k) j
+            ≡ countOf q (deadlineOf q i k - 1) j + only (hasDeadline (q .period j) (q .deadline j) (deadlineOf q i k)) 1
         tick on = tick-of (deadlineOf q i k) j (record { row = l; on = on }) (deadline-positive q v i k s)
 
         -- the message's own row
         own : q .sends j ≡ true → precedes q j i ≡ false → j ≡ i → Goal
         own on p e =
             let p′ : precedes q i j ≡ false = subst (λ (x : ℕ). precedes q i x ≡ false) (sym e) (prec-irrefl q i) in
-            let has : hasDeadline (q .period j) (q .deadline j) (deadlineOf q i k) ≡ true = subst (λ (x : ℕ). hasDeadline (q .period x) (q .deadline x) (deadlineOf q i k) ≡ true) (sym e) (has-own _ _ k (period-pos q v i (s .row)) (v .deadline-pos i (s .row))) in
+            let has : hasDeadline (q .period j) (q .deadline j) (deadlineOf q i k) ≡ true =
+            subst (λ (x : ℕ). hasDeadline (q .period x) (q .deadline x) (deadlineOf q i k) ≡ true) (sym e)
+            (has-own _ _ k (period-pos q v i (s .row)) (v .deadline-pos i (s .row))) in
             rw (on, p, p′, only-zero) (omega (arith, rw has at (tick on), only-self j i e))
 
         -- by whether row j sends, and whether it goes before row i
@@ -76,7 +81,12 @@ module _ (q : Queue) (v : Valid q) where
     unfolding upTo followers
     numbers =
         sum-ext _ _ (q .rows) row-numbers ∙ sum-add _ _ (q .rows) ∙
-        omega (arith, sum-add (λ j. only (dueAt q (deadlineOf q i k) j) (only (precedes q i j) 1)) (λ j. only (q .sends j) (jobsBefore q i k j)) (q .rows), sum-one (q .rows) i (s .row))
+        omega (
+          arith,
+          sum-add (λ j. only (dueAt q (deadlineOf q i k) j) (only (precedes q i j) 1)) (λ j. only (q .sends j) (jobsBefore q i k j))
+              (q .rows),
+          sum-one (q .rows) i (s .row),
+        )
 
     -- so equation 2's difference does not underflow
     pub followers-less : followers q (deadlineOf q i k) i < upTo q (deadlineOf q i k)
@@ -136,7 +146,8 @@ module _ (q : Queue) (v : Valid q) where
         arith,
         number-rank i k si,
         rw (← h .0) at (number-rank j l sj),
-        rank-less (precedes q) (prec-irrefl q) (prec-trans q) (prec-total q) (dueAt q (deadlineOf q i k)) (q .rows) i j (si .row) (dueAt-own i k si) (h .1),
+        rank-less (precedes q) (prec-irrefl q) (prec-trans q) (prec-total q) (dueAt q (deadlineOf q i k)) (q .rows) i j (si .row) (dueAt-own i k si)
+            (h .1),
       ))
       b
 

@@ -1,8 +1,10 @@
 -- Definition 1's order of the messages of a queue is strict and total, and for each sender it is a bound on its jobs.
-use Rattle.common.specs.Words.{ℕ, _-_, _<_, _≤_, arith, eq-of-mul-eq-mul-right, ℕ-discrete, true, false, true≢false, _⊎_, inl, inr, _↔_, ⊎-elim}
+use Rattle.common.specs.Words.{ℕ, _-_, _<_, _≤_, arith, eq-of-mul-eq-mul-right, ℕ-discrete, true, false, true≢false, _⊎_, inl, inr}
+use Rattle.common.specs.Words.{_↔_, ⊎-elim}
 use Rattle.common.specs.Words.{_≡_, refl, sym, subst, _∙_}
 use Rattle.common.specs.Tests.{lt-or-le, true-or-false, clash}
-use Rattle.model.specs.Model.{Queue, Valid, Sender, deadlineOf, countOf, precedes, Before, jobsBefore}
+use Rattle.model.specs.Model.{Queue, Valid, Sender, deadlineOf, countOf, precedes}
+use Rattle.model.specs.Source.{Before, jobsBefore}
 use Rattle.model.specs.Count.{count-iff}
 use Rattle.model.specs.Ties.{prec-irrefl, prec-trans, prec-total}
 

@@ -2,7 +2,8 @@
 -- `wanted-pos` and `wanted-fits`: a new length of it proves these two again, and nothing else.
 use Rattle.common.specs.Words.{ℕ, suc, _+_, _-_, _*_, _/_, _<_, _≤_, arith, le-div-iff-mul-le, mul-le-mul-right, lt-of-mul-lt-mul-right}
 use Rattle.common.specs.Words.{div-mul-le-self, lt-div-mul-add, add-mul-div-right, _↔_, ⊎-elim, _≡_}
-use Rattle.model.specs.Model.{Queue, Valid, receiverPeriod, jobFor, outdatedAt, horizon, wantedFor}
+use Rattle.model.specs.Model.{Queue, Valid, receiverPeriod, horizon, wantedFor}
+use Rattle.model.specs.Source.{jobFor, outdatedAt}
 use Rattle.common.specs.Tests.{lt-or-le}
 
 module _ (q : Queue) (v : Valid q) where

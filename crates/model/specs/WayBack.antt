@@ -38,7 +38,8 @@ module _ (q : Queue) (v : Valid q) where
 
   module _ (i k lastTick : ℕ) (s : Sender q i) (early : deadlineOf q i k ≤ lastTick) where
     back-tick : tickOf q lastTick (number q i k) ≡ deadlineOf q i k
-    back-tick = tickOf-is lastTick (number q i k) (deadlineOf q i k) (deadline-positive q v i k s) early (number-above q v i k s) (number-below q v i k s)
+    back-tick = tickOf-is lastTick (number q i k) (deadlineOf q i k) (deadline-positive q v i k s) early (number-above q v i k s)
+        (number-below q v i k s)
 
     own-row : sentBy q (deadlineOf q i k) (number q i k) i ≡ true
     unfolding number
@@ -71,7 +72,8 @@ module _ (q : Queue) (v : Valid q) where
 
   -- what the search for the tick finds
   pub tickOf-found : (lastTick n : ℕ) → 1 ≤ n → n ≤ upTo q lastTick →
-      (1 ≤ tickOf q lastTick n) × (tickOf q lastTick n ≤ lastTick) × (upTo q (tickOf q lastTick n - 1) < n) × (n ≤ upTo q (tickOf q lastTick n))
+      (1 ≤ tickOf q lastTick n) × (tickOf q lastTick n ≤ lastTick) × (upTo q (tickOf q lastTick n - 1) < n)
+      × (n ≤ upTo q (tickOf q lastTick n))
   unfolding tickOf
   tickOf-found lastTick n pos h =
       having (firstBad-is (λ t. ltb (upTo q t) n) lastTick)
@@ -83,7 +85,8 @@ module _ (q : Queue) (v : Valid q) where
           (λ (g : lastTick ≤ t). let e : lastTick ≡ t = omega (arith, f .within) in rw e at h)
           (lt-or-le t lastTick)
 
-      go : (t : ℕ) → FirstBad (λ t. ltb (upTo q t) n) lastTick t → n ≤ upTo q t → (1 ≤ t) × (t ≤ lastTick) × (upTo q (t - 1) < n) × (n ≤ upTo q t)
+      go : (t : ℕ) → FirstBad (λ t. ltb (upTo q t) n) lastTick t → n ≤ upTo q t →
+          (1 ≤ t) × (t ≤ lastTick) × (upTo q (t - 1) < n) × (n ≤ upTo q t)
       go zero f r = absurd (omega (arith, upTo-zero q v))
       go (suc t) f r =
           let e : suc t - 1 ≡ t = omega arith in
@@ -92,7 +95,8 @@ module _ (q : Queue) (v : Valid q) where
   -- from a number to its message and back
   pub way-there :
       (n lastTick : ℕ) → 1 ≤ n → n ≤ upTo q lastTick →
-      Sender q (senderOf q lastTick n) × (number q (senderOf q lastTick n) (jobOf q lastTick n) ≡ n) × (deadlineOf q (senderOf q lastTick n) (jobOf q lastTick n) ≤ lastTick)
+      Sender q (senderOf q lastTick n) × (number q (senderOf q lastTick n) (jobOf q lastTick n) ≡ n)
+      × (deadlineOf q (senderOf q lastTick n) (jobOf q lastTick n) ≤ lastTick)
   way-there n lastTick pos h =
       having (tickOf-found lastTick n pos h)
       (λ f.

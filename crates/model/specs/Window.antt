@@ -3,7 +3,8 @@
 use Rattle.common.specs.Words.{ℕ, suc, _+_, _-_, _*_, _<_, _≤_, arith, lt-of-not-le, not-le-of-lt, lt-of-mul-lt-mul-right, mul-le-mul-right}
 use Rattle.common.specs.Words.{zero-mul, _↔_, _≡_}
 use Rattle.common.specs.Tests.{having}
-use Rattle.model.specs.Model.{Queue, Valid, Sender, receiverPeriod, deadlineOf, upTo, number, first, last, jobFor}
+use Rattle.model.specs.Model.{Queue, Valid, Sender, receiverPeriod, deadlineOf, upTo, number, first, last}
+use Rattle.model.specs.Source.{jobFor}
 use Rattle.model.specs.Number.{number-iff, upTo-zero, upTo-mono}
 use Rattle.model.specs.Outdating.{job-from, job-first}
 

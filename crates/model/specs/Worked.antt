@@ -2,9 +2,10 @@
 use Rattle.common.specs.Words.{ℕ, _≤_, arith, Bool, true, false, _&&_, List, [], _∷_, _↔_, refl, T, eqb, getD}
 use Rattle.common.specs.Totals.{sum, most}
 use Rattle.common.specs.Rows.{every}
-use Rattle.model.specs.Model.{Queue, Sender, Fit, count, hasDeadline, precedes, upTo, dueAt, followers, number, first, last}
-use Rattle.model.specs.Model.{wantedFor, outdatedAt, horizon, outdated, deadlineOf, releaseOf, euclid, gcd, lcm, multiple}
-use Rattle.model.specs.Model.{hyperperiod, messages, need, rowSlots, slotsOver, slots, reach, equation3}
+use Rattle.model.specs.Model.{Queue, Sender, count, hasDeadline, precedes, upTo, dueAt, followers, number, first, last}
+use Rattle.model.specs.Model.{wantedFor, horizon, outdated, deadlineOf, releaseOf, euclid, gcd, lcm, multiple}
+use Rattle.model.specs.Model.{hyperperiod, messages, need, rowSlots, slotsOver, slots}
+use Rattle.model.specs.Source.{Fit, outdatedAt, reach, equation3}
 use Rattle.model.specs.Checks.{isValid, valid-of}
 use Rattle.model.specs.Slots.{slots-iff}
 
@@ -61,7 +62,8 @@ rows =
     ∷ p 7 (first tableA 1 ∷ last tableA 1 ∷ []) (1 ∷ 3 ∷ [])
     ∷ p 8 (first tableA 4 ∷ last tableA 4 ∷ []) (11 ∷ 13 ∷ [])
     ∷ p 9
-    (slots tableA ∷ number tableA 1 1 ∷ outdatedAt tableA (deadlineOf tableA 1 1) ∷ number tableA 1 4 ∷ releaseOf tableA 1 4 ∷ equation3 tableA ∷ [])
+    (slots tableA ∷ number tableA 1 1 ∷ outdatedAt tableA (deadlineOf tableA 1 1) ∷ number tableA 1 4 ∷ releaseOf tableA 1 4
+    ∷ equation3 tableA ∷ [])
     (9 ∷ 4 ∷ 30 ∷ 12 ∷ 28 ∷ 10 ∷ [])
     ∷ p 10 (slots shorterReceiver ∷ []) (8 ∷ [])
     ∷ p 11 (slots samePeriods ∷ []) (2 ∷ [])

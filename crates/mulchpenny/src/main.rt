@@ -1,26 +1,26 @@
 // Mulchpenny's console: answers each line of standard input on standard output. Input is read in blocks, and the answers to a block are
-// out before the next read, so that a person or a pipe sees each answer at once. No contract can say what is read or written: all that
-// matters is proved in `feed` and `console`.
+// out before the next read, so that a person or a pipe sees each answer at once. What is done with a block is proved, by `feed` and
+// `console`; what is read and written no contract can say, and .ci/programs tests it.
 use console::Desk;
-use libc::STDIN_FILENO;
-use libc::STDOUT_FILENO;
 use plan::Plan;
-ghost use Prim.Native.Nat.{_≤_};
-ghost use lib.ListN.{length};
+ghost use Rattle.common.specs.Words.{_≤_, length, take};
 ghost use Rattle.console.specs.Kept.{Kept};
 ghost use Rattle.feed.specs.Feed.{enough};
+ghost use Rattle.feed.specs.Outcome.{worldOf};
 ghost use Rattle.lines.specs.Lines.{kept};
+ghost use Rattle.mulchpenny.specs.Block.{BlockGives};
 
 const MEMORY: usize = Plan::MOST_SLOTS * Plan::SLOT_BYTES;
 
-// The desk after a block, how much of a line is carried over, and whether the answers could be written.
+// The desk after a block, how much of a line is carried over, where in the block it stopped, and whether the answers could be written.
 struct Turn {
     desk: Desk,
     used: usize,
+    next: usize,
     written: bool,
 }
 
-// Answers the lines that end in a block.
+// Answers the lines that end in a block: all of them, unless the answers cannot be written.
 fn answer_block(
     desk: Desk,
     memory: &mut [u8],
@@ -30,6 +30,8 @@ fn answer_block(
     out: &mut [u8],
 ) -> Turn
     requires { ⌜ (used ≤ kept) × (kept ≤ length (now held)) × (enough ≤ length (now out)) × Kept desk ⌝ }
+    ensures { λ r. ⌜ BlockGives (worldOf desk (now (memory .entry))) (take used (now (held .entry))) (now (piece .entry))
+        r (now (memory .exit)) (now (held .exit)) ⌝ }
     ensures { λ r. ⌜ (r .used ≤ kept) × Kept (r .desk) ⌝ }
 {
     let mut d = desk;
@@ -37,15 +39,14 @@ fn answer_block(
     let mut at: usize = 0;
     while at < piece.len() {
         let f = feed::feed(d, memory, held, u, piece, at, out);
-        let n = f.written;
         d = f.desk;
         u = f.used;
         at = f.next;
-        let is_written = io::write_all(STDOUT_FILENO, &out[..n]);
-        if !is_written {
+        if !blocks::write_answers(out, f.written) {
             return Turn {
                 desk: d,
                 used: u,
+                next: at,
                 written: false,
             };
         }
@@ -53,6 +54,7 @@ fn answer_block(
     Turn {
         desk: d,
         used: u,
+        next: at,
         written: true,
     }
 }
@@ -62,18 +64,9 @@ fn answer_last(desk: Desk, memory: &mut [u8], held: &[u8], used: usize, out: &mu
     requires { ⌜ (used ≤ length (now held)) × (enough ≤ length (now out)) ⌝ }
 {
     let s = feed::finish(desk, memory, held, used, out);
-    let n = s.written;
-    if n <= out.len() {
-        io::write_all(STDOUT_FILENO, &out[..n]);
+    if s.written <= out.len() {
+        blocks::write_answers(out, s.written);
     }
-}
-
-// Reads a block, and answers how many bytes came: none at the end of the input.
-fn read_block(piece: &mut [u8]) -> usize
-    ensures { λ r. ⌜ r ≤ length (now (piece .entry)) ⌝ }
-{
-    let got = libc::read(STDIN_FILENO, piece);
-    io::count(got, piece)
 }
 
 // A proved loop has to end, and nothing says that the input does: the loop counts its turns down from a number that no run uses up.
@@ -84,7 +77,7 @@ fn answer_all(memory: &mut [u8], held: &mut [u8], piece: &mut [u8], out: &mut [u
     let mut u: usize = 0;
     let mut turns = u64::MAX;
     while turns > 0 {
-        let n = read_block(piece);
+        let n = blocks::read_block(piece);
         if n == 0 {
             answer_last(d, memory, held, u, out);
             return;

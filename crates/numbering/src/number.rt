@@ -32,7 +32,7 @@ pub fn number_at(plan: Plan, queue: usize, task: usize, job: Job) -> Number
     ensures { λ r. ⌜ r ≡ message (number (queueAt plan queue) task (job .0)) ⌝ }
 {
     let at = calendar::deadline_of(plan.period[task], plan.deadline[task], job);
-    let n = counting::number::number_due(
+    counting::number::number_due(
         &plan.sends,
         &plan.period,
         &plan.deadline,
@@ -40,8 +40,7 @@ pub fn number_at(plan: Plan, queue: usize, task: usize, job: Job) -> Number
         queue,
         at,
         task,
-    );
-    Number(n)
+    )
 }
 
 // The last number of the window of a receiver's job.

@@ -1,5 +1,6 @@
 -- Laws of other declarations: what the code does token by token is what the rule says, and how far it goes.
-use Rattle.common.specs.Words.{ℕ, suc, _<_, arith, Bool, true, false, true≢false, cond, List, [], _∷_, _++_, length, _≡_, refl, sym, ap, _∙_, eqb, eq-eqb, ne-eqb, _&&_, _⊎_, inl, inr}
+use Rattle.common.specs.Words.{ℕ, suc, _<_, arith, Bool, true, false, true≢false, cond, List, [], _∷_, _++_, length, _≡_}
+use Rattle.common.specs.Words.{refl, sym, ap, _∙_, eqb, eq-eqb, ne-eqb, _&&_, _⊎_, inl, inr}
 use Rattle.words.specs.Kinds.{ENDED, END, SEMICOLON, APPLIES}
 use Rattle.tokens.specs.Tokens.{Token}
 use Rattle.tokens.specs.Laws.{cases}
@@ -41,15 +42,18 @@ module _ (outside : Bool) (w : List Fault) where
   waits s = waitingAfter outside w (firstKind s) (secondKind s) (first s .start)
 
   pub passing-on : (s : State) → lastKind (firstKind (s .went)) ≡ false →
-      does (state (s .went ⟫ any) (s .props) (worst (s .fault) (notedAt w (firstKind (s .went)))) (s .store)) (passing outside (waits (s .went))) ≡ does s (passing outside w)
+      does (state (s .went ⟫ any) (s .props) (worst (s .fault) (notedAt w (firstKind (s .went)))) (s .store)) (passing outside (waits (s .went)))
+      ≡ does s (passing outside w)
   unfolding does passing
   passing-on s =
       by-went (λ (s : State). lastKind (firstKind (s .went)) ≡ false →
-      does (state (s .went ⟫ any) (s .props) (worst (s .fault) (notedAt w (firstKind (s .went)))) (s .store)) (passing outside (waits (s .went))) ≡ does s (passing outside w))
+      does (state (s .went ⟫ any) (s .props) (worst (s .fault) (notedAt w (firstKind (s .went)))) (s .store)) (passing outside (waits (s .went)))
+      ≡ does s (passing outside w))
       go (λ f qs x t h. absurd (true≢false (sym last-ended ∙ h))) s
     where
       go : (ts : List Token) (qs : List ℕ) (x : Fault) (t : Store) → lastKind (next ts) ≡ false →
-          does (state (any ts) qs (worst x (notedAt w (next ts))) t) (passing outside (waits (On ts))) ≡ does (state (On ts) qs x t) (passing outside w)
+          does (state (any ts) qs (worst x (notedAt w (next ts))) t) (passing outside (waits (On ts)))
+          ≡ does (state (On ts) qs x t) (passing outside w)
       go [] qs x t h = absurd (true≢false (sym last-ended ∙ h))
       go (k ∷ ts) qs x t h =
           rw (any-one k ts h, h, worst-append x (notedAt w (k .kind)) (passing outside (waits (On (k ∷ ts))) qs ts .notes))
@@ -59,7 +63,8 @@ module _ (outside : Bool) (w : List Fault) where
   passing-off s =
       by-went (λ (s : State). lastKind (firstKind (s .went)) ≡ true → s ≡ does s (passing outside w)) go (λ f qs x t h. refl) s
     where
-      go : (ts : List Token) (qs : List ℕ) (x : Fault) (t : Store) → lastKind (next ts) ≡ true → state (On ts) qs x t ≡ does (state (On ts) qs x t) (passing outside w)
+      go : (ts : List Token) (qs : List ℕ) (x : Fault) (t : Store) → lastKind (next ts) ≡ true →
+          state (On ts) qs x t ≡ does (state (On ts) qs x t) (passing outside w)
       go [] qs x t h = refl
       go (k ∷ ts) qs x t h = rw h
 
@@ -96,7 +101,8 @@ pub other-does : (s : State) (o : Bool) → o ≡ outsideKind (firstKind (s .wen
 unfolding other
 other-does s o e =
     ap (λ (t : State). does t (quiet pathEnd))
-    (does-then-at s (quiet any) (passing o []) (λ ts. passing (outsideKind (next ts)) []) (λ ts u. ap (λ (b : Bool). passing b []) (e ∙ ap (λ (x : Step). outsideKind (firstKind x)) u)))
+    (does-then-at s (quiet any) (passing o []) (λ ts. passing (outsideKind (next ts)) [])
+    (λ ts u. ap (λ (b : Bool). passing b []) (e ∙ ap (λ (x : Step). outsideKind (firstKind x)) u)))
     ∙ does-then s (λ ps ts. quiet any ps ts ⨟ passing (outsideKind (next ts)) []) (quiet pathEnd)
 
 -- ## How far it goes

@@ -53,7 +53,8 @@ unfoldable pub passing : Bool → List Fault → Rule
 passing outside waiting ps [] = said (On []) ps [] []
 passing outside waiting ps (k ∷ ts) =
     let more = passing outside (waitingAfter outside waiting (k .kind) (next ts) (k .start)) ps ts in
-    cond (lastKind (k .kind)) (said (On (k ∷ ts)) ps [] []) (said (more .went) (more .props) (more .rows) (notedAt waiting (k .kind) ++ more .notes))
+    cond (lastKind (k .kind)) (said (On (k ∷ ts)) ps [] [])
+    (said (more .went) (more .props) (more .rows) (notedAt waiting (k .kind) ++ more .notes))
 
 -- "then "end" path ";"", which ends a package too
 unfoldable pub pathEnd : List Token → Step

@@ -14,7 +14,8 @@ pub passing-silent : (o : Bool) (w : List Fault) (ps : List ℕ) (ts : List Toke
 unfolding passing
 passing-silent o w ps [] = refl
 passing-silent o w ps (k ∷ ts) =
-    cases (λ (s : Said). s .rows ≡ []) (lastKind (k .kind)) (λ _. refl) (λ _. passing-silent o (waitingAfter o w (k .kind) (next ts) (k .start)) ps ts)
+    cases (λ (s : Said). s .rows ≡ []) (lastKind (k .kind)) (λ _. refl) (λ _. passing-silent o
+    (waitingAfter o w (k .kind) (next ts) (k .start)) ps ts)
 
 pub passing-pays : (o : Bool) (w : List Fault) → Pays 0 0 (passing o w)
 passing-pays o w ps ts = paid-silent (passing o w ps ts) (passing-silent o w ps ts) (passing-moves o w ps ts)
@@ -22,5 +23,6 @@ passing-pays o w ps ts = paid-silent (passing o w ps ts) (passing-silent o w ps 
 pub other-pays : Pays 0 3 other
 unfolding other
 other-pays ps ts =
-    paid-onward _ (quiet pathEnd) (paid-onward _ (passing (outsideKind (next ts)) []) (paid-moved (moves-any ts)) (passing-pays (outsideKind (next ts)) []))
+    paid-onward _ (quiet pathEnd) (paid-onward _ (passing (outsideKind (next ts)) [])
+    (paid-moved (moves-any ts)) (passing-pays (outsideKind (next ts)) []))
     (pays-quiet pathEnd path-end-moves)

@@ -113,7 +113,8 @@ fn is_reaching(kind: usize, second: usize) -> bool
 // The least of the words that wait for "applies", behind the next token.
 fn waiting_after(text: &[u8], reading: Reading, outside: bool, waiting: Fault) -> Fault
     ensures { λ r. ⌜ ((w : List Fault) → waiting ≡ worst noFault w →
-        r ≡ worst noFault (waitingAfter outside w (firstKind (lift (now (text .entry)) (reading .went))) (secondKind (lift (now (text .entry)) (reading .went)))
+        r ≡ worst noFault (waitingAfter outside w (firstKind (lift (now (text .entry)) (reading .went)))
+        (secondKind (lift (now (text .entry)) (reading .went)))
         (first (lift (now (text .entry)) (reading .went)) .start))) ⌝ }
 {
     let kind = next_of(text, reading);
@@ -161,7 +162,8 @@ fn goes_on(kind: usize) -> bool
 
 // Any tokens up to the first "end".
 fn passed(text: &[u8], reading: Reading, outside: bool) -> Reading
-    ensures { λ r. ⌜ ((m : List ℕ) → stateOf (now (text .entry)) r m ≡ does (stateOf (now (text .entry)) reading m) (passing outside [])) ⌝ }
+    ensures { λ r. ⌜ ((m : List ℕ) → stateOf (now (text .entry)) r m
+        ≡ does (stateOf (now (text .entry)) reading m) (passing outside [])) ⌝ }
 {
     let mut r = reading;
     let mut waiting = NO_FAULT;

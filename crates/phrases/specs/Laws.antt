@@ -1,6 +1,7 @@
 -- Laws of phrases: how far each rule goes, and rules in a row and choices as the code makes them.
 use Rattle.common.specs.Words.{ℕ, arith, true, false, true≢false, List, _≡_, refl, sym, _∙_, eq-eqb, ne-eqb}
-use Rattle.words.specs.Kinds.{ENDED, COLON, SCOPE, DOT, COMMA, SEMICOLON, OPEN-BRACE, ANNEXED, ARROW, DELAYING, ANNEX, DATA, EVENT, IN, NONE, OUT, PORT}
+use Rattle.words.specs.Kinds.{ENDED, COLON, SCOPE, DOT, COMMA, SEMICOLON, OPEN-BRACE, ANNEXED, ARROW, DELAYING, ANNEX, DATA}
+use Rattle.words.specs.Kinds.{EVENT, IN, NONE, OUT, PORT}
 use Rattle.tokens.specs.Tokens.{Token}
 use Rattle.steps.specs.Steps.{Step, On, Stop, _⟫_, next, second, is, named, any, the, name, optional, many}
 use Rattle.steps.specs.Lifted.{firstKind, secondKind, holds}
@@ -8,8 +9,10 @@ use Rattle.steps.specs.Laws.{Moved, Moves, Advances, advances, moves-any, moved
 use Rattle.steps.specs.Laws.{moves-optional, moves-many, optional-off, is-off, kind-on}
 use Rattle.values.specs.Values.{block}
 use Rattle.values.specs.Laws.{block-moves}
-use Rattle.phrases.specs.Phrases.{restKind, rest, beginsScope, scope, scopes, point, dotted, classifier, joinKind, joint, path, another, paths}
-use Rattle.phrases.specs.Phrases.{annex, direction, portKind, linkKind, place, arrow, nothing, sectionKind, skipKind, skipped, label, maybeLabel}
+use Rattle.phrases.specs.Phrases.{restKind, rest, beginsScope, scope, scopes, point, dotted, classifier, joinKind, joint}
+use Rattle.phrases.specs.Phrases.{path, another, paths}
+use Rattle.phrases.specs.Phrases.{annex, direction, portKind, linkKind, place, arrow, nothing, sectionKind, skipKind}
+use Rattle.phrases.specs.Phrases.{skipped, label, maybeLabel}
 use Rattle.phrases.specs.Phrases.{maybeClassifier, wordAndRest}
 
 -- ## How far each rule goes

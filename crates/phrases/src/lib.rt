@@ -39,7 +39,8 @@ ghost use Rattle.words.specs.Kinds.{OPEN-BRACE};
 ghost use Rattle.steps.specs.Lifted.{lift};
 ghost use Rattle.values.specs.Values.{block};
 ghost use Rattle.phrases.specs.Phrases.{restKind, rest, scopes, dotted, classifier, joinKind, path, paths, annex, direction, portKind};
-ghost use Rattle.phrases.specs.Phrases.{linkKind, place, arrow, nothing, sectionKind, skipKind, skipped, label, maybeLabel, maybeClassifier, wordAndRest};
+ghost use Rattle.phrases.specs.Phrases.{linkKind, place, arrow, nothing, sectionKind, skipKind, skipped, label};
+ghost use Rattle.phrases.specs.Phrases.{maybeLabel, maybeClassifier, wordAndRest};
 
 // [ kind ]
 fn maybe(text: &[u8], went: Went, kind: usize) -> Went

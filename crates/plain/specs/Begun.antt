@@ -1,5 +1,6 @@
 -- What a byte outside of comments, strings and annexes begins, and where the plain text has blanks.
-use Rattle.common.specs.Words.{ℕ, zero, suc, _+_, _<_, _≤_, arith, Bool, true, false, cond, _&&_, _||_, List, _∷_, ⊎-elim, _≡_, refl, eqb, leb}
+use Rattle.common.specs.Words.{ℕ, zero, suc, _+_, _<_, _≤_, arith, Bool, true, false, cond, _&&_, _||_}
+use Rattle.common.specs.Words.{List, _∷_, ⊎-elim, _≡_, refl, eqb, leb}
 use Rattle.common.specs.Words.{eqb-true, leb-true}
 use Rattle.common.specs.Tests.{clash, both}
 use Rattle.plain.specs.Plain.{lower, two, stringBy, annexRest, step, brace, begun, stepOf}

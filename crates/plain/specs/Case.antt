@@ -1,5 +1,6 @@
 -- Letter case does not count: a text with every letter in lower case gives the same plain text. A plain text is as long as its text.
-use Rattle.common.specs.Words.{ℕ, zero, suc, _+_, _<_, _≤_, arith, Bool, true, false, _&&_, List, [], _∷_, map, _⊎_, inl, inr, ⊎-elim, _≡_, refl}
+use Rattle.common.specs.Words.{ℕ, zero, suc, _+_, _<_, _≤_, arith, Bool, true, false, _&&_, List, [], _∷_}
+use Rattle.common.specs.Words.{map, _⊎_, inl, inr, ⊎-elim, _≡_, refl}
 use Rattle.common.specs.Words.{sym, ap, _∙_, eqb, leb, length, getD, drop, ne-eqb, leb-true, lt-leb}
 use Rattle.common.specs.Words.{ltb, ltb-true, _||_}
 use Rattle.common.specs.Tests.{true-or-false, both}
@@ -69,7 +70,8 @@ two-lower : (bs : List ℕ) (a b : ℕ) → sign a ≡ true → sign b ≡ true 
 unfolding two
 two-lower bs a b s r = rw (at-lower bs 0 a s, at-lower bs 1 b r)
 
-three-lower : (bs : List ℕ) (a b c : ℕ) → sign a ≡ true → sign b ≡ true → sign c ≡ true → three (map lower bs) a b c ≡ three bs a b c
+three-lower : (bs : List ℕ) (a b c : ℕ) → sign a ≡ true → sign b ≡ true →
+    sign c ≡ true → three (map lower bs) a b c ≡ three bs a b c
 unfolding three
 three-lower bs a b c s r q = rw (two-lower bs a b s r, at-lower bs 2 c q)
 

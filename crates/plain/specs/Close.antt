@@ -106,7 +106,8 @@ unfolding lastBy
 last-above p zero i j h g l = absurd (omega arith)
 last-above p (suc n) i j h g l = go (closesAt p n) refl h (last-above p n i j)
   where
-    go : (t : Bool) → closesAt p n ≡ t → cond t (suc n) (lastBy p n) ≤ i → (lastBy p n ≤ i → i ≤ j → j < n → closesAt p j ≡ false) →
+    go : (t : Bool) → closesAt p n ≡ t → cond t (suc n) (lastBy p n) ≤ i →
+        (lastBy p n ≤ i → i ≤ j → j < n → closesAt p j ≡ false) →
         closesAt p j ≡ false
     go true e h f = absurd (omega arith)
     go false e h f = ⊎-elim (λ (x : j ≡ n). rw x e) (λ (x : j < n). f h g x) (eq-or-lt-of-le (le-of-suc-le-suc l))

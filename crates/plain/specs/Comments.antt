@@ -1,5 +1,6 @@
 -- Comments do not count: a text whose comments are overwritten by blanks gives the same plain text.
-use Rattle.common.specs.Words.{ℕ, zero, suc, _+_, _-_, _<_, _≤_, arith, Bool, true, false, cond, List, [], _∷_, _⊎_, inl, inr, ⊎-elim, _≡_, refl}
+use Rattle.common.specs.Words.{ℕ, zero, suc, _+_, _-_, _<_, _≤_, arith, Bool, true, false, cond, List, []}
+use Rattle.common.specs.Words.{_∷_, _⊎_, inl, inr, ⊎-elim, _≡_, refl}
 use Rattle.common.specs.Words.{sym, ap, _∙_, eqb, length, getD, drop, eqb-true, eq-zero-or-pos}
 use Rattle.common.specs.Tests.{clash, both}
 use Rattle.plain.specs.Plain.{lower, two, three, stringBy, closeBy, annexRest, brace, begun, stepOf, plainBy, markRest, plainOf}
@@ -26,7 +27,8 @@ blanked-length t = blanked-length-by false (markRest t) t
 -- ## Bytes
 
 -- each byte is a blank or kept
-at-blanked : (c : Bool) (n : ℕ) (bs : List ℕ) (i : ℕ) → (getD (blankedBy c n bs) i 0 ≡ 0x20) ⊎ (getD (blankedBy c n bs) i 0 ≡ getD bs i 0)
+at-blanked : (c : Bool) (n : ℕ) (bs : List ℕ) (i : ℕ) →
+    (getD (blankedBy c n bs) i 0 ≡ 0x20) ⊎ (getD (blankedBy c n bs) i 0 ≡ getD bs i 0)
 unfolding blankedBy
 at-blanked c n [] i = inr refl
 at-blanked c n (b ∷ bs) zero = go (stepOf c n b bs .comment)
@@ -85,7 +87,8 @@ unfolding closeBy blankedBy
 close-none n c m [] e = refl
 close-none n c m (b ∷ bs) e =
     let s = stepOf c m b bs in
-    go (three (b ∷ bs) 0x2a 0x2a 0x7d) (three (blankedBy c m (b ∷ bs)) 0x2a 0x2a 0x7d) (three-blanked c m (b ∷ bs) 0x2a 0x2a 0x7d refl refl refl) e
+    go (three (b ∷ bs) 0x2a 0x2a 0x7d) (three (blankedBy c m (b ∷ bs)) 0x2a 0x2a 0x7d)
+    (three-blanked c m (b ∷ bs) 0x2a 0x2a 0x7d refl refl refl) e
     (close-none (n + 1) (s .comment) (s .left) bs)
   where
     go : (t u : Bool) {k j : ℕ} → (u ≡ true → t ≡ true) → cond t (n + 3) k ≡ 0 → (k ≡ 0 → j ≡ 0) → cond u (n + 3) j ≡ 0
@@ -212,7 +215,8 @@ string-far n z ended = inl (string-ended n z)
 string-far n z (line bs) = inl (string-line n z bs)
 string-far n z (single bs e) = inr (omega (arith, string-quote n z bs e))
 string-far n z (doubled {bs = bs} v) =
-    inr (rw (string-doubled n z bs) (⊎-elim (λ (e : stringBy (n + 2) (n + 1) bs ≡ n + 1). omega arith) (λ (l : n + 2 < stringBy (n + 2) (n + 1) bs). omega arith)
+    inr (rw (string-doubled n z bs) (⊎-elim (λ (e : stringBy (n + 2) (n + 1) bs ≡ n + 1). omega arith)
+    (λ (l : n + 2 < stringBy (n + 2) (n + 1) bs). omega arith)
     (string-far (n + 2) (n + 1) v)))
 string-far n z (byte b {bs = bs} e f v) =
     ⊎-elim (λ (g : stringBy (n + 1) z bs ≡ z). inl (string-other n z b bs e f ∙ g))
@@ -231,13 +235,15 @@ quote-kept (suc m) bs = refl
 quote-kept zero bs = refl
 
 -- where no quote follows in the line, none does still
-string-open : {bs : List ℕ} (n z : ℕ) (c : Bool) (m : ℕ) → Scan bs → z ≤ n → stringBy n z bs ≡ z → stringBy n z (blankedBy c m bs) ≡ z
+string-open : {bs : List ℕ} (n z : ℕ) (c : Bool) (m : ℕ) → Scan bs → z ≤ n →
+    stringBy n z bs ≡ z → stringBy n z (blankedBy c m bs) ≡ z
 unfolding blankedBy
 string-open n z c m ended l e = string-ended n z
 string-open n z c m (line bs) l e = rw (line-kept c m bs) (string-line n z _)
 string-open n z c m (single bs f) l e = absurd (omega (arith, string-quote n z bs f))
 string-open n z c m (doubled {bs = bs} v) l e =
-    absurd (⊎-elim (λ (g : stringBy (n + 2) (n + 1) bs ≡ n + 1). omega (arith, string-doubled n z bs)) (λ (g : n + 2 < stringBy (n + 2) (n + 1) bs). omega (arith, string-doubled n z bs))
+    absurd (⊎-elim (λ (g : stringBy (n + 2) (n + 1) bs ≡ n + 1). omega (arith, string-doubled n z bs))
+    (λ (g : n + 2 < stringBy (n + 2) (n + 1) bs). omega (arith, string-doubled n z bs))
     (string-far (n + 2) (n + 1) v))
 string-open n z c m (byte b {bs = bs} f g v) l e =
     let s = stepOf c m b bs in
@@ -249,7 +255,8 @@ string-open n z c m (byte b {bs = bs} f g v) l e =
     pick false k e f = f
 
 -- and a string is one still
-string-kept : {bs : List ℕ} (n z : ℕ) → Scan bs → (k : ℕ) → stringBy n z bs ≡ k → z ≤ n → z < k → stringBy n z (blankedBy false (k - n) bs) ≡ k
+string-kept : {bs : List ℕ} (n z : ℕ) → Scan bs → (k : ℕ) → stringBy n z bs ≡ k →
+    z ≤ n → z < k → stringBy n z (blankedBy false (k - n) bs) ≡ k
 unfolding blankedBy stepOf
 string-kept n z ended k e l h = absurd (omega (arith, string-ended n z))
 string-kept n z (line bs) k e l h = absurd (omega (arith, string-line n z bs))
@@ -268,7 +275,8 @@ string-kept n z (doubled {bs = bs} v) k e l h =
     rw (y, string-doubled) (string-kept (n + 2) (n + 1) v k x (omega arith) (omega arith))) (string-far (n + 2) (n + 1) v)
 string-kept n z (byte b {bs = bs} f g v) k e l h =
     let x : stringBy (n + 1) z bs ≡ k = rw (string-other n z b bs f g) at e in
-    let far : n + 1 < k = ⊎-elim (λ (q : stringBy (n + 1) z bs ≡ z). absurd (omega arith)) (λ (q : n + 1 < stringBy (n + 1) z bs). omega arith) (string-far (n + 1) z v) in
+    let far : n + 1 < k = ⊎-elim (λ (q : stringBy (n + 1) z bs ≡ z). absurd (omega arith))
+    (λ (q : n + 1 < stringBy (n + 1) z bs). omega arith) (string-far (n + 1) z v) in
     let y : k - n ≡ suc (k - (n + 1)) = omega arith in
     rw y (string-other n z b _ f g ∙ string-kept (n + 1) z v k x (omega arith) h)
 
@@ -281,7 +289,8 @@ string-same bs =
 -- ## The plain text
 
 -- no comment begins where none began
-hyphens-blanked : (b : ℕ) (c : Bool) (n : ℕ) (bs : List ℕ) → two (b ∷ blankedBy c n bs) 0x2d 0x2d ≡ true → two (b ∷ bs) 0x2d 0x2d ≡ true
+hyphens-blanked : (b : ℕ) (c : Bool) (n : ℕ) (bs : List ℕ) →
+    two (b ∷ blankedBy c n bs) 0x2d 0x2d ≡ true → two (b ∷ bs) 0x2d 0x2d ≡ true
 unfolding two
 hyphens-blanked b c n bs e = let h = both (eqb b 0x2d) e in rw (h .0, test-blanked c n bs 0 0x2d refl (h .1))
 
@@ -291,7 +300,8 @@ begun-blanked : (b : ℕ) (bs : List ℕ) → Begins b bs → ((c : Bool) (n : �
 unfolding plainBy blankedBy stepOf
 begun-blanked b bs (Begins.comment e) r = rw (begun-comment b bs e, begun-space) (ap (λ (l : List ℕ). 0x20 ∷ l) (r true 0))
 begun-blanked b bs (Begins.quote e) r =
-    rw (e, begun-quote bs, begun-quote (blankedBy false (stringBy 0 0 bs) bs), string-same bs) (ap (λ (l : List ℕ). 0x22 ∷ l) (r false (stringBy 0 0 bs)))
+    rw (e, begun-quote bs, begun-quote (blankedBy false (stringBy 0 0 bs) bs), string-same bs)
+    (ap (λ (l : List ℕ). 0x22 ∷ l) (r false (stringBy 0 0 bs)))
 begun-blanked b bs (Begins.annex e) r =
     rw (e, begun-annex bs, begun-annex (blankedBy false (annexRest bs) bs), annex-kept bs (annexRest bs) refl)
     (ap (λ (l : List ℕ). brace (annexRest bs) ∷ l) (r false (annexRest bs)))

@@ -1,5 +1,6 @@
 -- Rules 1, 2, 3 and 9 and the sizes and places of rule 7 in plain facts: each test of Rules passes exactly when its facts hold.
-use Rattle.common.specs.Words.{ℕ, _<_, _≤_, Bool, true, false, _&&_, _↔_, _≡_, refl, leb, ltb, eqb, ltb-true, lt-ltb, leb-true, le-leb, eqb-true}
+use Rattle.common.specs.Words.{ℕ, _<_, _≤_, Bool, true, false, _&&_, _↔_, _≡_, refl, leb, ltb, eqb, ltb-true, lt-ltb, leb-true, le-leb}
+use Rattle.common.specs.Words.{eqb-true}
 use Rattle.common.specs.Words.{eq-eqb}
 use Rattle.common.specs.Tests.{clash, both, and-iff}
 use Rattle.common.specs.Rows.{every-iff, some, some-iff}
@@ -8,6 +9,7 @@ use Rattle.plan.specs.Limits.{taskLimit, queueLimit, longestPeriod, most
 use Rattle.plan.specs.Rules.{oneTo, countsGood, taskGood, maySend, onlyTasksSend, queueGood, placeGood, connected}
 use Rattle.plan.specs.Plan.{queueAt}
 use Rattle.plan.specs.declared.Plan.{Plan}
+pub use Rattle.plan.specs.Obeyed.{OneTo, Counts, Task, OnlyTasks, SomeSender, Connected}
 
 lt-iff : (a b : ℕ) → (ltb a b ≡ true) ↔ (a < b)
 lt-iff a b = (ltb-true a b, lt-ltb a b)
@@ -18,40 +20,18 @@ le-iff a b = (leb-true a b, le-leb a b)
 eq-iff : (a b : ℕ) → (eqb a b ≡ true) ↔ (a ≡ b)
 eq-iff a b = (eqb-true a b, eq-eqb a b)
 
--- n is 1..most
-abbrev pub OneTo : ℕ → ℕ → Type 0
-OneTo most n = (1 ≤ n) × (n ≤ most)
-
 one-to-iff : (most n : ℕ) → (oneTo most n ≡ true) ↔ OneTo most n
 unfolding oneTo
 one-to-iff most n = and-iff (leb 1 n) (leb n most) (le-iff 1 n) (le-iff n most)
-
--- rule 1
-abbrev pub Counts : ℕ → ℕ → Type 0
-Counts tasks queues = OneTo taskLimit tasks × OneTo queueLimit queues
 
 pub counts-iff : (tasks queues : ℕ) → (countsGood tasks queues ≡ true) ↔ Counts tasks queues
 unfolding countsGood
 counts-iff tasks queues =
     and-iff (oneTo taskLimit tasks) (oneTo queueLimit queues) (one-to-iff taskLimit tasks) (one-to-iff queueLimit queues)
 
--- rule 2, of one task with period P and deadline D
-abbrev pub Task : ℕ → ℕ → Type 0
-Task P D = OneTo longestPeriod P × OneTo P D
-
 pub task-iff : (P D : ℕ) → (taskGood P D ≡ true) ↔ Task P D
 unfolding taskGood
 task-iff P D = and-iff (oneTo longestPeriod P) (oneTo P D) (one-to-iff longestPeriod P) (one-to-iff P D)
-
--- rule 3, of one queue: its receiver is a task, only tasks send into it, and one does
-abbrev pub OnlyTasks : ℕ → (ℕ → Bool) → Type 0
-OnlyTasks tasks sends = (i : ℕ) → i < taskLimit → sends i ≡ true → i < tasks
-
-abbrev pub SomeSender : (ℕ → Bool) → Type 0
-SomeSender sends = (i : ℕ) × (i < taskLimit) × (sends i ≡ true)
-
-abbrev pub Connected : ℕ → ℕ → (ℕ → Bool) → Type 0
-Connected tasks receiver sends = (receiver < tasks) × (OnlyTasks tasks sends × SomeSender sends)
 
 may-send-iff : (tasks i : ℕ) (b : Bool) → (maySend tasks b i ≡ true) ↔ (b ≡ true → i < tasks)
 may-send-iff tasks i true = (λ h e. ltb-true i tasks h, λ f. lt-ltb i tasks (f refl))

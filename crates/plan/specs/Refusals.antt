@@ -1,10 +1,11 @@
 -- Document 01's refusals: the number of each rule, and the answer of a chain of tests.
-use Rattle.common.specs.Words.{ℕ, Bool, cond, List, [], _∷_}
+use Rattle.common.specs.Words.{ℕ, Bool, true, false, cond, List, [], _∷_, _⊎_, _≡_}
 use Rattle.plan.specs.declared.refusal.Rule.{Rule}
 use Rattle.plan.specs.declared.refusal.Rule.the-variants.{TaskOrQueueCount, PeriodOrDeadline, ReceiverOrSender, HyperperiodTooLong}
 use Rattle.plan.specs.declared.refusal.Rule.the-variants.{TooManyMessages, TooManySlots, UnsoundPlan, ShortMemory, NoSuchSender}
 use Rattle.plan.specs.declared.refusal.Rule.the-variants.{TickBeforeState, PastLastTick, JobOver, SentAlready, PayloadLength, NoSuchNumber}
 use Rattle.plan.specs.declared.refusal.Refusal.{Refusal}
+use Rattle.plan.specs.declared.refusal.Verdict.{Verdict}
 
 abbrev pub numberOf : Rule → ℕ
 numberOf TaskOrQueueCount = 1
@@ -43,3 +44,11 @@ test gives refusal = record { applies = test; given = refusal }
 abbrev pub judged : {A : Type 0} → List Line → (Refusal → A) → A → A
 judged [] refused good = good
 judged (line ∷ lines) refused good = cond (line .applies) (refused (line .given)) (judged lines refused good)
+
+abbrev pub verdict : List Line → Verdict
+verdict lines = judged lines Verdict.Refused Verdict.Clear
+
+-- the first line that applies gives r
+abbrev pub Stopped : List Line → Refusal → Type 0
+Stopped [] r = ⊥
+Stopped (line ∷ lines) r = ((line .applies ≡ true) × (line .given ≡ r)) ⊎ ((line .applies ≡ false) × Stopped lines r)

@@ -1,10 +1,9 @@
 -- Rules 1, 2, 3, 7 and 9 of document 01's table, each as the test that a table or a plan has to pass.
 -- Rules 1 to 3 are stated over counts, columns and connections, so that planning's table and a plan are tested by the same words.
 use Rattle.common.specs.Words.{ℕ, Bool, not, _&&_, _||_, List, leb, ltb, eqb, getD}
-use Rattle.common.specs.Totals.{sum}
-use Rattle.common.specs.Rows.{every, some, firstBad}
+use Rattle.common.specs.Terms.{sum, every, some, firstBad}
 use Rattle.plan.specs.Limits.{taskLimit, queueLimit, longestPeriod, mostSlots}
-use Rattle.plan.specs.Plan.{sendsInto, sizeAt, placeAt, slotsOf}
+use Rattle.plan.specs.Queues.{sendsInto, sizeAt, placeAt, slotsOf}
 use Rattle.plan.specs.Square.{entry}
 use Rattle.plan.specs.declared.Plan.{Plan}
 

@@ -4,36 +4,13 @@ use Rattle.common.specs.Tests.{and-iff, having}
 use Rattle.common.specs.Totals.{sum, sum-next, sum-up}
 use Rattle.common.specs.Rows.{every, every-iff, every-firstBad}
 use Rattle.model.specs.Model.{Sender}
-use Rattle.plan.specs.Limits.{taskLimit, queueLimit, longestPeriod, mostSlots}
+use Rattle.plan.specs.Limits.{mostSlots}
 use Rattle.plan.specs.Plan.{zeros, sendsInto, queueAt, sizeAt, placeAt, slotsOf, Usable}
 use Rattle.plan.specs.Rules.{countsGood, taskGoodAt, queueGoodAt, placeGoodAt, placesGood, checkedPlan, soundPlan, badTask, badQueue, oneTo}
-use Rattle.plan.specs.Facts.{Counts, Task, OnlyTasks, SomeSender, Connected, Placed, le-iff, counts-iff, task-iff, queue-iff, place-iff}
+use Rattle.plan.specs.Facts.{Counts, Task, Connected, Placed, le-iff, counts-iff, task-iff, queue-iff, place-iff}
 use Rattle.plan.specs.Connections.{Agree, badQueue-same}
 use Rattle.plan.specs.declared.Plan.{Plan}
-
--- Rules 1 to 3 are kept: what planning finds out before it has sizes.
-pub record Checked (p : Plan) : Type 0 where
-  -- 1
-  pub some-task : 1 ≤ p .tasks
-  pub tasks-fit : p .tasks ≤ taskLimit
-  pub some-queue : 1 ≤ p .queues
-  pub queues-fit : p .queues ≤ queueLimit
-  -- 2
-  pub period-fits : (i : ℕ) → i < p .tasks → getD (p .period) i 0 ≤ longestPeriod
-  pub deadline-pos : (i : ℕ) → i < p .tasks → 1 ≤ getD (p .deadline) i 0
-  pub deadline-fits : (i : ℕ) → i < p .tasks → getD (p .deadline) i 0 ≤ getD (p .period) i 0
-  -- 3
-  pub receiver-row : (q : ℕ) → q < p .queues → getD (p .receiver) q 0 < p .tasks
-  pub sender-row : (q : ℕ) → q < p .queues → OnlyTasks (p .tasks) (sendsInto p q)
-  pub some-sender : (q : ℕ) → q < p .queues → SomeSender (sendsInto p q)
-
--- Rule 7 is kept.
-pub record Sound (p : Plan) : Type 0 where
-  pub checked : Checked p
-  pub size-pos : (q : ℕ) → q < p .queues → 1 ≤ sizeAt p q
-  pub size-fits : (q : ℕ) → q < p .queues → sizeAt p q ≤ mostSlots
-  pub place-is : (q : ℕ) → q < p .queues → placeAt p q ≡ sum (sizeAt p) q
-  pub total-fits : slotsOf p ≤ mostSlots
+pub use Rattle.plan.specs.Obeyed.{Checked, Sound}
 
 -- ## Exactly when
 

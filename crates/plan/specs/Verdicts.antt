@@ -3,6 +3,7 @@
 -- decides all three.
 use Rattle.common.specs.Words.{ℕ, arith, Bool, true, false, cond, List, [], _∷_, _++_, _⊎_, inl, inr, _≡_, refl, ap, _∙_}
 use Rattle.plan.specs.Refusals.{Line, judged}
+pub use Rattle.plan.specs.Refusals.{Stopped, verdict}
 use Rattle.plan.specs.declared.refusal.Refusal.{Refusal}
 use Rattle.plan.specs.declared.refusal.Verdict.{Verdict}
 
@@ -10,11 +11,6 @@ use Rattle.plan.specs.declared.refusal.Verdict.{Verdict}
 abbrev pub Passed : List Line → Type 0
 Passed [] = Unit {0}
 Passed (line ∷ lines) = (line .applies ≡ false) × Passed lines
-
--- the first line that applies gives r
-abbrev pub Stopped : List Line → Refusal → Type 0
-Stopped [] r = ⊥
-Stopped (line ∷ lines) r = ((line .applies ≡ true) × (line .given ≡ r)) ⊎ ((line .applies ≡ false) × Stopped lines r)
 
 pub passed-or-stopped : (lines : List Line) → Passed lines ⊎ ((r : Refusal) × Stopped lines r)
 passed-or-stopped [] = inl tt
@@ -32,7 +28,8 @@ pub passed-good : {A : Type 0} (lines : List Line) (refused : Refusal → A) (go
 passed-good [] refused good h = refl
 passed-good (line ∷ lines) refused good h = rw (h .0) (passed-good lines refused good (h .1))
 
-pub stopped-refused : {A : Type 0} (lines : List Line) (r : Refusal) (refused : Refusal → A) (good : A) → Stopped lines r → judged lines refused good ≡ refused r
+pub stopped-refused : {A : Type 0} (lines : List Line) (r : Refusal) (refused : Refusal → A) (good : A) → Stopped lines r →
+    judged lines refused good ≡ refused r
 stopped-refused [] r refused good h = absurd h
 stopped-refused (line ∷ lines) r refused good (inl h) = rw (h .0) (ap refused (h .1))
 stopped-refused (line ∷ lines) r refused good (inr h) = rw (h .0) (stopped-refused lines r refused good (h .1))
@@ -53,14 +50,12 @@ judged-map f [] refused good = refl
 judged-map {A} {B} f (line ∷ lines) refused good = go (line .applies) (judged-map f lines refused good)
   where
     go : (b : Bool) → f (judged lines refused good) ≡ judged lines (λ r. f (refused r)) (f good) →
-        f (cond b (refused (line .given)) (judged lines refused good)) ≡ cond b (f (refused (line .given))) (judged lines (λ r. f (refused r)) (f good))
+        f (cond b (refused (line .given)) (judged lines refused good))
+        ≡ cond b (f (refused (line .given))) (judged lines (λ r. f (refused r)) (f good))
     go true e = refl
     go false e = e
 
 -- ## The verdict is all that a choice by the lines looks at
-
-abbrev pub verdict : List Line → Verdict
-verdict lines = judged lines Verdict.Refused Verdict.Clear
 
 abbrev pub outcome : {A : Type 0} → Verdict → (Refusal → A) → A → A
 outcome Verdict.Clear refused good = good

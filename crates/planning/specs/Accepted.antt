@@ -1,17 +1,18 @@
 -- What an accepted planning has made: a sound plan, its table as handed in with zeros beyond the counts, the least fit sizes, never
 -- above equation 3, and the places as running sums. What a refused one has made: the plan of all zeros.
-use Rattle.common.specs.Words.{ℕ, _<_, _≤_, arith, Bool, true, false, _&&_, List, _++_, _⊎_, inl, inr, _↔_, _≡_, refl, sym, ap, _∙_, lt-ltb}
+use Rattle.common.specs.Words.{ℕ, _<_, _≤_, arith, Bool, false, _&&_, List, _++_, _⊎_, inl, inr, _↔_, _≡_, refl, sym, ap, _∙_}
+use Rattle.common.specs.Words.{lt-ltb}
 use Rattle.common.specs.Words.{ltb-false, leb-true, not-false, ltb, getD}
 use Rattle.common.specs.Tests.{and-left}
 use Rattle.common.specs.Totals.{only, sum, sum-ext, sum-at}
 use Rattle.common.specs.Table.{table, table-at}
 use Rattle.common.specs.Rows.{firstBad, firstBad-is}
-use Rattle.model.specs.Model.{Fit, hyperperiod, slots, equation3}
+use Rattle.model.specs.Model.{hyperperiod}
+use Rattle.model.specs.Source.{Fit, equation3}
 use Rattle.model.specs.Slots.{slots-iff, slots-pos}
 use Rattle.model.specs.Equation3.{slots-bound}
 use Rattle.plan.specs.Limits.{queueLimit, longestHyperperiod, mostSlots}
 use Rattle.plan.specs.Plan.{zeros, queueAt, sizeAt, placeAt, Usable}
-use Rattle.plan.specs.Rules.{soundPlan}
 use Rattle.plan.specs.Refusals.{judged}
 use Rattle.plan.specs.Verdicts.{Passed, Stopped, passed-or-stopped, passed-good, stopped-refused, judged-good}
 use Rattle.plan.specs.Sound.{Checked, Sound, sound-iff, checked-usable, checked-sender, usable}
@@ -19,16 +20,12 @@ use Rattle.plan.specs.declared.Plan.{Plan}
 use Rattle.plan.specs.declared.refusal.Refusal.{Refusal}
 use Rattle.sizing.specs.Cycle.{cycleShort, messagesFew}
 use Rattle.tables.specs.Table.{tabled}
-use Rattle.planning.specs.Planning.{longQueue, leastSize, leastSizes, sized, refusedPlan, firstLines, tableLines, accepted, tableJudged, planOf}
+use Rattle.planning.specs.Planning.{longQueue, leastSize, leastSizes, sized, refusedPlan, firstLines, tableLines, accepted, tableJudged}
+use Rattle.planning.specs.Planning.{planOf}
+pub use Rattle.planning.specs.Planning.{Made}
 use Rattle.planning.specs.TableLaws.{table-checked, long-within, size-at}
 use Rattle.planning.specs.declared.Planned.{Planned}
 use Rattle.planning.specs.declared.Answer.{Answer}
-
--- "a plan we made", as everything above planning needs it
-pub record Made (p : Plan) : Type 0 where
-  pub sound : soundPlan p ≡ true
-  pub least : (q : ℕ) → q < p .queues → sizeAt p q ≡ slots (queueAt p q)
-  pub short : (q : ℕ) → q < p .queues → hyperperiod (queueAt p q) ≤ longestHyperperiod
 
 -- ## A table that has passed rules 1 to 6
 
@@ -82,7 +79,8 @@ module _ {t : Plan} (c : Checked t) (cycles : longQueue t ≡ t .queues) (few : 
   cycle-within : (q : ℕ) → q < t .queues → hyperperiod (queueAt t q) ≤ longestHyperperiod
   unfolding longQueue
   cycle-within q l =
-      leb-true _ _ (and-left (cycleShort t q) (messagesFew t q) (firstBad-is (λ q. cycleShort t q && messagesFew t q) (t .queues) .before q (rw cycles l)))
+      leb-true _ _ (and-left (cycleShort t q) (messagesFew t q)
+      (firstBad-is (λ q. cycleShort t q && messagesFew t q) (t .queues) .before q (rw cycles l)))
 
   sized-made : Made (sized t)
   sized-made = record {
@@ -117,11 +115,14 @@ module _ (tasks queues : ℕ) (period deadline receiver : List ℕ) (square : Li
   unfolding planOf tableJudged
   passes e =
       let p = planOf tasks queues period deadline receiver square .plan in
-      let whole : planOf tasks queues period deadline receiver square ≡ record { answer = Answer.Accepted; plan = p } = λ i. record { answer = e i; plan = p } in
-      let table = judged-good refusedPlan (tableJudged T) _ (λ r. not-accepted r p) (firstLines tasks queues period deadline receiver square) whole in
+      let whole : planOf tasks queues period deadline receiver square ≡ record { answer = Answer.Accepted; plan = p } =
+      λ i. record { answer = e i; plan = p } in
+      let table = judged-good refusedPlan (tableJudged T) _ (λ r. not-accepted r p)
+      (firstLines tasks queues period deadline receiver square) whole in
       let good = judged-good refusedPlan (accepted T) _ (λ r. not-accepted r p) (tableLines T) (table .1) in
       let checked : Checked T =
-      table-checked tasks queues period deadline receiver square (not-false _ (table .0 .0)) (none-bad _ tasks (table .0 .1 .0)) (none-bad _ queues (table .0 .1 .1 .0)) in
+      table-checked tasks queues period deadline receiver square (not-false _ (table .0 .0)) (none-bad _ tasks (table .0 .1 .0))
+      (none-bad _ queues (table .0 .1 .1 .0)) in
       record {
         checked = checked;
         cycles = omega (arith, ltb-false (longQueue T) (T .queues) (good .0 .1 .0), long-within T);
@@ -131,7 +132,8 @@ module _ (tasks queues : ℕ) (period deadline receiver : List ℕ) (square : Li
 
   -- the rules in document 01's order, as one list: the first line that applies is the answer
   pub plan-lines : planOf tasks queues period deadline receiver square
-      ≡ judged (firstLines tasks queues period deadline receiver square ++ tableLines T) refusedPlan (accepted T)
+      ≡ (let t = tabled tasks queues period deadline receiver square in
+      judged (firstLines tasks queues period deadline receiver square ++ tableLines t) refusedPlan (accepted t))
   unfolding planOf tableJudged
   plan-lines = refl
 
@@ -144,16 +146,18 @@ module _ (tasks queues : ℕ) (period deadline receiver : List ℕ) (square : Li
           ⊎ ((s : Refusal) × Stopped (firstLines tasks queues period deadline receiver square ++ tableLines T) s) →
           planOf tasks queues period deadline receiver square .plan ≡ zeros
       go (inl h) =
-          let good = plan-lines ∙ passed-good (firstLines tasks queues period deadline receiver square ++ tableLines T) refusedPlan (accepted T) h in
+          let good = plan-lines ∙ passed-good (firstLines tasks queues period deadline receiver square ++ tableLines T) refusedPlan
+          (accepted T) h in
           let a : Answer.Refused r ≡ Answer.Accepted = sym e ∙ ap (λ (x : Planned). x .answer) good in
           absurd (let z : _≡_ {A = ℕ} 0 1 = cc in omega arith)
       go (inr h) =
           ap (λ (x : Planned). x .plan)
-          (plan-lines ∙ stopped-refused (firstLines tasks queues period deadline receiver square ++ tableLines T) (h .0) refusedPlan (accepted T) (h .1))
+          (plan-lines ∙ stopped-refused (firstLines tasks queues period deadline receiver square ++ tableLines T) (h .0) refusedPlan (accepted T)
+          (h .1))
 
   module _ (yes : planOf tasks queues period deadline receiver square .answer ≡ Answer.Accepted) where
     -- an accepted plan holds the table with the least sizes and their places
-    pub accepted-is : planOf tasks queues period deadline receiver square .plan ≡ sized T
+    pub accepted-is : planOf tasks queues period deadline receiver square .plan ≡ sized (tabled tasks queues period deadline receiver square)
     accepted-is = passes yes .plan-is
 
     pub accepted-made : Made (planOf tasks queues period deadline receiver square .plan)
@@ -172,8 +176,3 @@ module _ {p : Plan} (made : Made p) (q : ℕ) (counted : q < p .queues) where
   -- "That L never exceeds the source's equation 3"
   pub made-bound : sizeAt p q ≤ equation3 (queueAt p q)
   made-bound = rw (made .least q counted) (slots-bound (queueAt p q) (made-usable .valid))
-
--- the contract determines the outcome
-pub make-plan-unique : (tasks queues : ℕ) (period deadline receiver : List ℕ) (square : List (List Bool)) (r s : Planned) →
-    r ≡ planOf tasks queues period deadline receiver square → s ≡ planOf tasks queues period deadline receiver square → r ≡ s
-make-plan-unique tasks queues period deadline receiver square r s a b = a ∙ sym b

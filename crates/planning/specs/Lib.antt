@@ -2,3 +2,5 @@
 pub mod Planning
 pub mod TableLaws
 pub mod Accepted
+pub mod Says
+pub mod Unique

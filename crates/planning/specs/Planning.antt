@@ -1,17 +1,16 @@
 -- What planning answers and the plan that it makes, on every input: rules 1 to 6 in document 01's order, the least sizes, and the
 -- places as running sums.
-use Rattle.common.specs.Words.{ℕ, Bool, not, _&&_, List, [], _∷_, ltb, getD}
-use Rattle.common.specs.Totals.{only, sum}
-use Rattle.common.specs.Rows.{firstBad}
-use Rattle.common.specs.Table.{table}
-use Rattle.model.specs.Model.{slots}
-use Rattle.plan.specs.Limits.{queueLimit, mostSlots}
-use Rattle.plan.specs.Plan.{zeros, queueAt}
-use Rattle.plan.specs.Rules.{countsGood, badTask, badQueue}
+use Rattle.common.specs.Words.{ℕ, _<_, _≤_, Bool, true, not, _&&_, List, [], _∷_, _≡_, ltb, getD}
+use Rattle.common.specs.Terms.{only, sum, firstBad, table}
+use Rattle.model.specs.Model.{hyperperiod, slots}
+use Rattle.plan.specs.Limits.{queueLimit, longestHyperperiod, mostSlots}
+use Rattle.plan.specs.Queues.{zeros, queueAt, sizeAt}
+use Rattle.plan.specs.Rules.{countsGood, badTask, badQueue, soundPlan}
 use Rattle.plan.specs.Refusals.{Line, _gives_, named, unnamed, judged}
 use Rattle.plan.specs.declared.Plan.{Plan}
 use Rattle.plan.specs.declared.refusal.Refusal.{Refusal}
-use Rattle.plan.specs.declared.refusal.Rule.the-variants.{TaskOrQueueCount, PeriodOrDeadline, ReceiverOrSender, HyperperiodTooLong, TooManyMessages, TooManySlots}
+use Rattle.plan.specs.declared.refusal.Rule.the-variants.{TaskOrQueueCount, PeriodOrDeadline, ReceiverOrSender}
+use Rattle.plan.specs.declared.refusal.Rule.the-variants.{HyperperiodTooLong, TooManyMessages, TooManySlots}
 use Rattle.sizing.specs.Cycle.{cycleShort, messagesFew}
 use Rattle.tables.specs.Table.{tabled}
 use Rattle.planning.specs.declared.Planned.{Planned}
@@ -81,3 +80,9 @@ unfoldable pub planOf : ℕ → ℕ → List ℕ → List ℕ → List ℕ → L
 planOf tasks queues period deadline receiver square =
     judged (firstLines tasks queues period deadline receiver square) refusedPlan
     (tableJudged (tabled tasks queues period deadline receiver square))
+
+-- "a plan we made": what every accepted planning gives (law `accepted-made`)
+pub record Made (p : Plan) : Type 0 where
+  pub sound : soundPlan p ≡ true
+  pub least : (q : ℕ) → q < p .queues → sizeAt p q ≡ slots (queueAt p q)
+  pub short : (q : ℕ) → q < p .queues → hyperperiod (queueAt p q) ≤ longestHyperperiod

@@ -1,5 +1,7 @@
--- What the table keeps of its rows: counted rows as they were handed in, zeros beyond. So rules 1 to 3, tested on what was handed in, hold of the table.
-use Rattle.common.specs.Words.{ℕ, _+_, _*_, _/_, _%_, _<_, _≤_, arith, Bool, true, false, _&&_, List, ⊎-elim, _≡_, sym, _∙_, lt-ltb, le-ltb}
+-- What the table keeps of its rows: counted rows as they were handed in, zeros beyond. So rules 1 to 3, tested on what was handed in, hold
+-- of the table.
+use Rattle.common.specs.Words.{ℕ, _+_, _*_, _/_, _%_, _<_, _≤_, arith, Bool, true, false, _&&_, List, ⊎-elim, _≡_, sym, _∙_, lt-ltb}
+use Rattle.common.specs.Words.{le-ltb}
 use Rattle.common.specs.Words.{ltb-true, ltb, getD, List·getD-eq-default}
 use Rattle.common.specs.Tests.{lt-or-le}
 use Rattle.common.specs.Totals.{only, sum, only-most, sum-ext}
@@ -40,7 +42,8 @@ flat-beyond queues square q i h l b =
     table-at (flatEntry queues square) cellLimit (q * taskLimit + i) false (omega arith) ∙ rw (row, le-ltb q queues h)
 
 module _ (tasks queues : ℕ) (period deadline receiver : List ℕ) (square : List (List Bool)) where
-  pub table-checked : countsGood tasks queues ≡ true → badTask period deadline tasks ≡ tasks → badQueue square receiver tasks queues ≡ queues →
+  pub table-checked : countsGood tasks queues ≡ true → badTask period deadline tasks ≡ tasks →
+      badQueue square receiver tasks queues ≡ queues →
       Checked (tabled tasks queues period deadline receiver square)
   unfolding tabled
   table-checked c t u =

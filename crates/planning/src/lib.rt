@@ -9,7 +9,8 @@ use plan::refusal::Rule;
 ghost use Rattle.common.specs.Words.{_≡_};
 ghost use Rattle.plan.specs.Refusals.{named};
 ghost use Rattle.plan.specs.Sound.{Checked};
-ghost use Rattle.planning.specs.Planning.{planOf, refusedPlan, tableJudged};
+ghost use Rattle.planning.specs.Planning.{refusedPlan, tableJudged};
+ghost use Rattle.planning.specs.Unique.{PlanGives};
 
 pub enum Answer {
     Accepted,
@@ -56,7 +57,7 @@ pub fn make_plan(
     receiver: [usize; Plan::QUEUES],
     square: [[bool; Plan::TASKS]; Plan::QUEUES],
 ) -> Planned
-    ensures { λ r. ⌜ r ≡ planOf tasks queues period deadline receiver square ⌝ }
+    ensures { λ r. ⌜ PlanGives tasks queues period deadline receiver square r ⌝ }
 {
     if !rules::counts_good(tasks, queues) {
         return refused(Rule::TaskOrQueueCount, 0);

@@ -8,7 +8,8 @@ use Rattle.steps.specs.Laws.{moves-the}
 use Rattle.phrases.specs.Laws.{nothing-moves}
 use Rattle.rows.specs.Said.{Said, Rule, quiet}
 use Rattle.rows.specs.Pays.{PaidBy, Pays, paid-less, paid-moved, paid-silent, pays-quiet, paid-onward, pays-optionally, pays-repeat}
-use Rattle.properties.specs.Properties.{propertyAt, readIn, owned, skippedIn, associationIn, associationsIn, blockIn, maybeBlockIn, noneOr, propertiesIn}
+use Rattle.properties.specs.Properties.{propertyAt, readIn, owned, skippedIn, associationIn, associationsIn, blockIn}
+use Rattle.properties.specs.Properties.{maybeBlockIn, noneOr, propertiesIn}
 use Rattle.properties.specs.Laws.{association-in-moves}
 
 pub association-silent : (c : ℕ) (ps : List ℕ) (ts : List Token) → associationIn c ps ts .rows ≡ []
@@ -28,7 +29,8 @@ associations-pay c = pays-repeat named (associationIn c) (association-pays c)
 block-pays : (c : ℕ) → Pays 0 2 (blockIn c)
 unfolding blockIn
 block-pays c ps ts =
-    paid-onward _ (quiet (the CLOSE-BRACE)) (paid-onward _ (associationsIn c) (paid-moved (moves-the OPEN-BRACE (λ e. omega arith) ts)) (associations-pay c))
+    paid-onward _ (quiet (the CLOSE-BRACE)) (paid-onward _ (associationsIn c)
+    (paid-moved (moves-the OPEN-BRACE (λ e. omega arith) ts)) (associations-pay c))
     (pays-quiet (the CLOSE-BRACE) (moves-the CLOSE-BRACE (λ e. omega arith)))
 
 pub maybe-block-pays : (c : ℕ) → Pays 0 0 (maybeBlockIn c)
@@ -43,4 +45,5 @@ none-or-pays rule h ps ts =
 pub properties-in-pays : (c : ℕ) → Pays 0 1 (propertiesIn c)
 unfolding propertiesIn
 properties-in-pays c ps ts =
-    paid-onward _ (noneOr (associationsIn c)) (paid-moved (moves-the PROPERTIES (λ e. omega arith) ts)) (none-or-pays (associationsIn c) (associations-pay c))
+    paid-onward _ (noneOr (associationsIn c)) (paid-moved (moves-the PROPERTIES (λ e. omega arith) ts))
+    (none-or-pays (associationsIn c) (associations-pay c))

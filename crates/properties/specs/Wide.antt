@@ -18,7 +18,8 @@ associations-wide c = wide-repeat named (associationIn c) (association-wide c)
 block-wide : (c : ℕ) → WideOn (blockIn c)
 unfolding blockIn
 block-wide c ps ts =
-    wide-onward _ (quiet (the CLOSE-BRACE)) (wide-onward _ (associationsIn c) (wide-quiet (the OPEN-BRACE) ps ts) (associations-wide c)) (wide-quiet (the CLOSE-BRACE))
+    wide-onward _ (quiet (the CLOSE-BRACE)) (wide-onward _ (associationsIn c) (wide-quiet (the OPEN-BRACE) ps ts) (associations-wide c))
+    (wide-quiet (the CLOSE-BRACE))
 
 pub maybe-block-wide : (c : ℕ) → WideOn (maybeBlockIn c)
 unfolding maybeBlockIn

@@ -233,7 +233,8 @@ fn association_in(text: &[u8], reading: Reading, of: usize) -> Reading
 
 // { association }
 fn associations_in(text: &[u8], reading: Reading, of: usize) -> Reading
-    ensures { λ r. ⌜ ((m : List ℕ) → stateOf (now (text .entry)) r m ≡ does (stateOf (now (text .entry)) reading m) (associationsIn of)) ⌝ }
+    ensures { λ r. ⌜ ((m : List ℕ) → stateOf (now (text .entry)) r m
+        ≡ does (stateOf (now (text .entry)) reading m) (associationsIn of)) ⌝ }
 {
     let mut r = reading;
     while is_name(next_of(text, r)) {

@@ -1,6 +1,8 @@
 -- Promise 1: the first place decides. A refusal (number, place) means that no fault stands at an earlier place and none with a lower number
 -- at the same one; a table means that there is no fault. Number 0 is no fault.
-use Rattle.common.specs.Words.{ℕ, zero, suc, _<_, _≤_, min, max, arith, pos-of-ne-zero, Bool, true, false, true≢false, cond, List, [], _∷_, _⊎_, inl, inr, ⊎-elim, _≡_, refl, sym, ap, _∙_, eqb, eqb-true, eqb-false, leb, leb-true, leb-false, length, getD}
+use Rattle.common.specs.Words.{ℕ, zero, suc, _<_, _≤_, min, max, arith, pos-of-ne-zero, Bool, true, false, true≢false, cond, List, [], _∷_}
+use Rattle.common.specs.Words.{_⊎_, inl, inr, ⊎-elim, _≡_, refl, sym, ap, _∙_, eqb, eqb-true, eqb-false, leb, leb-true, leb-false, length}
+use Rattle.common.specs.Words.{getD}
 use Rattle.common.specs.Tests.{lt-or-le, clash}
 use Rattle.steps.specs.declared.Fault.{Fault}
 use Rattle.steps.specs.Faults.{noFault, worse, worst}
@@ -56,7 +58,8 @@ OneOf x fs = (i : ℕ) × ((i < length fs) × (getD fs i noFault ≡ x))
 one-of : (f : Fault) (fs : List Fault) → (worst f fs ≡ f) ⊎ OneOf (worst f fs) fs
 unfolding worst
 one-of f [] = inl refl
-one-of f (g ∷ gs) = ⊎-elim here (λ (x : OneOf (worst (worse f g) gs) gs). inr (suc (x .0), (omega (arith, x .1 .0), x .1 .1))) (one-of (worse f g) gs)
+one-of f (g ∷ gs) = ⊎-elim here (λ (x : OneOf (worst (worse f g) gs) gs).
+    inr (suc (x .0), (omega (arith, x .1 .0), x .1 .1))) (one-of (worse f g) gs)
   where
     here : worst (worse f g) gs ≡ worse f g → (worst (worse f g) gs ≡ f) ⊎ OneOf (worst (worse f g) gs) (g ∷ gs)
     here e = go (before g f) (worse-by f g)
@@ -80,7 +83,8 @@ clamped n = one (leb n 20) refl
     three true e l = omega (arith, eqb-true n 22 e)
     three false e l = let h = eqb-false n 22 e in four (eqb n 23) refl (omega arith)
 
-    two : (x : Bool) → eqb n 21 ≡ x → 20 < n → numberOf (cond x Unknown (cond (eqb n 22) NoTime (cond (eqb n 23) TooDeep Twice))) ≡ min 24 (max 20 n)
+    two : (x : Bool) → eqb n 21 ≡ x → 20 < n →
+        numberOf (cond x Unknown (cond (eqb n 22) NoTime (cond (eqb n 23) TooDeep Twice))) ≡ min 24 (max 20 n)
     two true e l = omega (arith, eqb-true n 21 e)
     two false e l = let h = eqb-false n 21 e in three (eqb n 22) refl (omega arith)
 
@@ -92,7 +96,8 @@ clamped n = one (leb n 20) refl
 abbrev pub documentNumber : Fault → ℕ
 documentNumber f = numberOf (ruleOf (f .number))
 
-by-answer : (f : Fault) (t : Table) → ((f .number ≡ 0) × (answerBy f t .answer ≡ Sound)) ⊎ ((0 < f .number) × (answerBy f t .answer ≡ Refused (refusal f)))
+by-answer : (f : Fault) (t : Table) → ((f .number ≡ 0) × (answerBy f t .answer ≡ Sound))
+    ⊎ ((0 < f .number) × (answerBy f t .answer ≡ Refused (refusal f)))
 unfolding answerBy
 by-answer f t = go (eqb (f .number) 0) refl
   where
@@ -125,37 +130,44 @@ module _ (text : List ℕ) where
 
   -- a table: no fault
   pub sound-no-fault : readOf text .answer ≡ Sound → (i : ℕ) → i < length (faultsOf text) → fault-at i .number ≡ 0
-  sound-no-fault h i l = ⊎-elim none (λ (r : (0 < worst noFault (faultsOf text) .number) × (readOf text .answer ≡ Refused (refusal (worst noFault (faultsOf text))))).
+  sound-no-fault h i l = ⊎-elim none (λ (r : (0 < worst noFault (faultsOf text) .number)
+      × (readOf text .answer ≡ Refused (refusal (worst noFault (faultsOf text))))).
       absurd (true≢false (ap isSound (sym h ∙ r .1)))) (read-by text)
     where
       none : (worst noFault (faultsOf text) .number ≡ 0) × (readOf text .answer ≡ Sound) → fault-at i .number ≡ 0
       none r =
-          ⊎-elim (λ (p : 0 < fault-at i .number). absurd (none-before noFault (faultsOf text) i l (p, inl (r .0)))) (λ (p : fault-at i .number ≤ 0). omega arith)
+          ⊎-elim (λ (p : 0 < fault-at i .number). absurd (none-before noFault (faultsOf text) i l (p, inl (r .0))))
+          (λ (p : fault-at i .number ≤ 0). omega arith)
           (lt-or-le 0 (fault-at i .number))
 
   module _ (x : Refusal) (h : readOf text .answer ≡ Refused x) where
     least-is : refusal (worst noFault (faultsOf text)) ≡ x
     least-is =
-        ⊎-elim (λ (r : (worst noFault (faultsOf text) .number ≡ 0) × (readOf text .answer ≡ Sound)). absurd (true≢false (ap isSound (sym (r .1) ∙ h))))
-        (λ (r : (0 < worst noFault (faultsOf text) .number) × (readOf text .answer ≡ Refused (refusal (worst noFault (faultsOf text))))). ap (refusalIn x) (sym (r .1) ∙ h))
+        ⊎-elim (λ (r : (worst noFault (faultsOf text) .number ≡ 0) × (readOf text .answer ≡ Sound)).
+        absurd (true≢false (ap isSound (sym (r .1) ∙ h))))
+        (λ (r : (0 < worst noFault (faultsOf text) .number) × (readOf text .answer ≡ Refused (refusal (worst noFault (faultsOf text))))).
+        ap (refusalIn x) (sym (r .1) ∙ h))
         (read-by text)
 
     -- a refusal is a fault of the text
     pub refused-fault : (i : ℕ) × ((i < length (faultsOf text)) × (refusal (fault-at i) ≡ x))
     refused-fault =
         ⊎-elim (λ (e : worst noFault (faultsOf text) ≡ noFault). absurd (gone e))
-        (λ (o : OneOf (worst noFault (faultsOf text)) (faultsOf text)). (o .0, (o .1 .0, ap refusal (o .1 .1) ∙ least-is))) (one-of noFault (faultsOf text))
+        (λ (o : OneOf (worst noFault (faultsOf text)) (faultsOf text)).
+        (o .0, (o .1 .0, ap refusal (o .1 .1) ∙ least-is))) (one-of noFault (faultsOf text))
       where
         gone : worst noFault (faultsOf text) ≡ noFault → ⊥
         gone e =
-            ⊎-elim (λ (r : (worst noFault (faultsOf text) .number ≡ 0) × (readOf text .answer ≡ Sound)). true≢false (ap isSound (sym (r .1) ∙ h)))
+            ⊎-elim (λ (r : (worst noFault (faultsOf text) .number ≡ 0) × (readOf text .answer ≡ Sound)).
+            true≢false (ap isSound (sym (r .1) ∙ h)))
             (λ (r : (0 < worst noFault (faultsOf text) .number) × (readOf text .answer ≡ Refused (refusal (worst noFault (faultsOf text))))).
             let n : worst noFault (faultsOf text) .number ≡ 0 = ap (λ (f : Fault). f .number) e in omega (arith, r .0)) (read-by text)
 
     -- none stands at an earlier place, and none with a lower number at the same one
     pub refused-first : (i : ℕ) → i < length (faultsOf text) → 0 < fault-at i .number →
         ((fault-at i .place < x .place) ⊎ ((fault-at i .place ≡ x .place) × (documentNumber (fault-at i) < numberOf (x .rule)))) → ⊥
-    refused-first i l p b = none-before noFault (faultsOf text) i l (p, inr (⊎-elim (λ (q : fault-at i .place < x .place). inl (omega (arith, place))) lower b))
+    refused-first i l p b = none-before noFault (faultsOf text) i l
+        (p, inr (⊎-elim (λ (q : fault-at i .place < x .place). inl (omega (arith, place))) lower b))
       where
         least : Fault
         least = worst noFault (faultsOf text)

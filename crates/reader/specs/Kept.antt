@@ -1,5 +1,6 @@
 -- Rows that are kept in memory with room for all of them are there afterwards, in their order.
-use Rattle.common.specs.Words.{ℕ, _+_, _*_, _≤_, _<_, arith, true, List, [], _∷_, _++_, append-nil, append-assoc, _≡_, refl, sym, ap, _∙_, inl, le-leb, length, length-sets, sets, ext-getD}
+use Rattle.common.specs.Words.{ℕ, _+_, _*_, _≤_, _<_, arith, true, List, [], _∷_, _++_, append-nil, append-assoc, _≡_}
+use Rattle.common.specs.Words.{refl, sym, ap, _∙_, inl, le-leb, length, length-sets, sets, ext-getD}
 use Rattle.common.specs.Stores.{part, part-same, part-other}
 use Rattle.rows.specs.Rows.{Row, rowWords, Store, store, kept, keptAll}
 use Rattle.rows.specs.Wide.{wide, wide-first}
@@ -18,7 +19,8 @@ kept-one m n row w l =
     let last : rowAt k n ≡ row = ap (λ (c : ℕ). part k (rowWords * n) c) (sym w) ∙ part-same row m (rowWords * n) (omega arith) in
     rows-more n k ∙ rw (before, last)
 
-kept-room : (m : List ℕ) (n : ℕ) (row : Row) → rowWords * n + rowWords ≤ length m → kept (store m n) row ≡ store (sets m (rowWords * n) row) (n + 1)
+kept-room : (m : List ℕ) (n : ℕ) (row : Row) → rowWords * n + rowWords ≤ length m →
+    kept (store m n) row ≡ store (sets m (rowWords * n) row) (n + 1)
 unfolding kept
 kept-room m n row l = rw (le-leb (rowWords * n + rowWords) (length m) l)
 
@@ -27,7 +29,8 @@ pub record Held (m : List ℕ) (n : ℕ) (more : List Row) (s : Store) : Type 0 
   pub rows : rowsIn (s .count) (s .memory) ≡ rowsIn n m ++ more
   pub size : length (s .memory) ≡ length m
 
-pub kept-held : (rows : List Row) (m : List ℕ) (n : ℕ) → wide rows ≡ true → rowWords * (n + length rows) ≤ length m → Held m n rows (keptAll (store m n) rows)
+pub kept-held : (rows : List Row) (m : List ℕ) (n : ℕ) → wide rows ≡ true →
+    rowWords * (n + length rows) ≤ length m → Held m n rows (keptAll (store m n) rows)
 unfolding keptAll
 kept-held [] m n w l = record { count = omega arith; rows = sym (append-nil (rowsIn n m)); size = refl }
 kept-held (row ∷ rows) m n w l =

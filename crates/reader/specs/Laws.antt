@@ -1,5 +1,7 @@
 -- Laws of the reader: what ends a reading, what the state after a reading says, and the answer by the least fault.
-use Rattle.common.specs.Words.{ℕ, zero, suc, _*_, _<_, _≤_, min, arith, ⊎-elim, Bool, true, false, true≢false, _&&_, List, [], _∷_, _++_, _≡_, refl, sym, ap, _∙_, eqb, eq-eqb, ne-eqb, leb, leb-true, ltb, length, length-append, take, take-all, length-take-le}
+use Rattle.common.specs.Words.{ℕ, zero, suc, _*_, _<_, _≤_, min, arith, ⊎-elim, Bool, true, false, true≢false, _&&_, List, [], _∷_, _++_}
+use Rattle.common.specs.Words.{_≡_, refl, sym, ap, _∙_, eqb, eq-eqb, ne-eqb, leb, leb-true, ltb, length, length-append, take, take-all}
+use Rattle.common.specs.Words.{length-take-le}
 use Rattle.common.specs.Tests.{lt-or-le}
 use Rattle.plain.specs.Plain.{plainOf}
 use Rattle.plain.specs.Case.{plain-length}
@@ -22,7 +24,8 @@ use Rattle.kit.specs.declared.Table.{Table}
 use Rattle.kit.specs.Kit.{tableOf}
 use Rattle.reader.specs.declared.Read.{Read}
 use Rattle.reader.specs.declared.Answer.the-variants.{Sound, Refused, NoRoom}
-use Rattle.reader.specs.Reader.{mostBytes, mostRows, treeRoom, rowsRoom, plainText, readFrom, endFaults, longFaults, faultsIn, refusal, noTable, answered, answerBy, answerRead, answerPlain, readOf, enough, answer, Fitting}
+use Rattle.reader.specs.Reader.{mostBytes, mostRows, treeRoom, rowsRoom, plainText, readFrom, endFaults, longFaults}
+use Rattle.reader.specs.Reader.{faultsIn, refusal, noTable, answered, answerBy, answerRead, answerPlain, readOf, enough, answer, Fitting}
 use Rattle.reader.specs.Kept.{Held, kept-held}
 
 -- ## What ends a reading
@@ -95,7 +98,8 @@ read-answer p r m n long e l =
     let s = readFrom p in
     let ends = endFaults (s .went) long (judged p (s .rows)) in
     let q : worst noFault (s .notes ++ longFaults long ++ ends) ≡ worst (worst (worst noFault (s .notes)) (longFaults long)) ends =
-    worst-append noFault (s .notes ++ longFaults long) ends ∙ ap (λ (f : Fault). worst f ends) (worst-append noFault (s .notes) (longFaults long)) in
+    worst-append noFault (s .notes ++ longFaults long) ends ∙ ap (λ (f : Fault). worst f ends)
+    (worst-append noFault (s .notes) (longFaults long)) in
     rw (read-rows p r m n e l, read-went p r m n e, read-fault p r m n e, q)
 
 -- ## Room
@@ -140,9 +144,13 @@ fitting-plain plain rows declared connected queued types h =
 
 -- rows that were read fit
 pub fitting-read : (p : List ℕ) (r : Reading) (m n declared connected queued types : List ℕ) → ended p r m n → length p ≤ mostBytes →
-    enough mostBytes (length m) (length declared) (length connected) (length queued) (length types) ≡ true → Fitting (r .count) n declared connected queued types
+    enough mostBytes (length m) (length declared) (length connected) (length queued) (length types) ≡ true →
+    Fitting (r .count) n declared connected queued types
 fitting-read p r m n declared connected queued types e l h =
-    let k : length p ≤ length m = omega (arith, fitting-plain mostBytes (length m) (length declared) (length connected) (length queued) (length types) h .1) in
+    let k : length p ≤ length m = omega (
+      arith,
+      fitting-plain mostBytes (length m) (length declared) (length connected) (length queued) (length types) h .1,
+    ) in
     fitting (r .count) mostBytes n declared connected queued types (rw (read-size p r m n e k) h) (omega (arith, read-few p r m n e k))
 
 -- ## The plain text at the front of its memory
@@ -171,7 +179,8 @@ pub answer-none : (room : Bool) (text : List ℕ) → room ≡ false → answere
 unfolding answer
 answer-none room text h = rw h
 
-pub answer-some : (room : Bool) (text p : List ℕ) → room ≡ true → p ≡ plainText text → answerPlain p (ltb mostBytes (length text)) ≡ answer room text
+pub answer-some : (room : Bool) (text p : List ℕ) → room ≡ true → p ≡ plainText text →
+    answerPlain p (ltb mostBytes (length text)) ≡ answer room text
 unfolding answer readOf
 answer-some room text p h e = rw (h, e)
 
@@ -180,4 +189,5 @@ pub enough-plain : (plain rows declared connected queued types : ℕ) → enough
     enough mostBytes rows declared connected queued types ≡ true
 unfolding enough
 enough-plain plain rows declared connected queued types h =
-    both (leb mostBytes plain) (leb rowsRoom rows && (leb treeRoom declared && (leb treeRoom connected && (leb treeRoom queued && leb mostRows types)))) h .1
+    both (leb mostBytes plain) (leb rowsRoom rows && (leb treeRoom declared
+    && (leb treeRoom connected && (leb treeRoom queued && leb mostRows types)))) h .1

@@ -1,5 +1,6 @@
 -- AADL.md, section 6: a text's faults, and what it is answered with.
-use Rattle.common.specs.Words.{ℕ, _+_, _*_, _^_, _<_, _≤_, Bool, false, cond, _&&_, List, [], _∷_, _++_, eqb, ltb, leb, length, take, replicate}
+use Rattle.common.specs.Words.{ℕ, _+_, _*_, _^_, _<_, _≤_, Bool, false, cond, _&&_, List, [], _∷_}
+use Rattle.common.specs.Words.{_++_, eqb, ltb, leb, length, take, replicate}
 use Rattle.plain.specs.Plain.{plainOf}
 use Rattle.tokens.specs.Tokens.{from}
 use Rattle.steps.specs.declared.Fault.{Fault}

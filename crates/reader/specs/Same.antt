@@ -26,5 +26,6 @@ pub comments-aside : (text : List ℕ) → length text ≤ mostBytes → readOf 
 unfolding readOf
 comments-aside text l =
     same (plainText (blanked text)) (plainText text) (length (blanked text)) (length text)
-    (ap plainOf (take-all mostBytes (blanked text) (omega (arith, blanked-length text))) ∙ comments-blank text ∙ ap plainOf (sym (take-all mostBytes text l)))
+    (ap plainOf (take-all mostBytes (blanked text) (omega (arith, blanked-length text)))
+    ∙ comments-blank text ∙ ap plainOf (sym (take-all mostBytes text l)))
     (blanked-length text)

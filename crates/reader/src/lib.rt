@@ -21,7 +21,8 @@ ghost use Rattle.index.specs.Index.{rowsIn, Indexed};
 ghost use Rattle.ways.specs.Ways.{Known};
 ghost use Rattle.verdict.specs.Verdict.{judged};
 ghost use Rattle.reader.specs.declared.Answer.the-variants.{Refused};
-ghost use Rattle.reader.specs.Reader.{mostBytes, endFaults, longFaults, numberOf, ruleOf, refusal, noTable, answered, plainText, answerRead, answerPlain, enough, answer, Fitting, Prepared};
+ghost use Rattle.reader.specs.Reader.{mostBytes, endFaults, longFaults, numberOf, ruleOf, refusal, noTable, answered};
+ghost use Rattle.reader.specs.Reader.{plainText, answerRead, answerPlain, enough, answer, Fitting, Prepared};
 
 // Document 02's refusals, in the order of their numbers, 20 to 24.
 pub enum Rule {
@@ -133,7 +134,8 @@ fn prepare(
     count: usize,
 )
     requires { ⌜ Fitting count (now rows) (now declared) (now connected) (now queued) (now types) ⌝ }
-    ensures { λ _. ⌜ Prepared (now (text .entry)) (now (rows .entry)) (now (declared .exit)) (now (connected .exit)) (now (queued .exit)) (now (types .exit)) count ⌝ }
+    ensures { λ _. ⌜ Prepared (now (text .entry)) (now (rows .entry)) (now (declared .exit))
+        (now (connected .exit)) (now (queued .exit)) (now (types .exit)) count ⌝ }
 {
     build(text, rows, declared, DECLARED, count);
     build(text, rows, connected, CONNECTED, count);
@@ -167,7 +169,8 @@ fn least_fault(
     fault: Fault,
     long: bool,
 ) -> Fault
-    requires { ⌜ Known (now text) (now rows) (now declared) (now types) (reading .count) × Indexed (now text) 1 (now rows) (now connected) (reading .count) ⌝ }
+    requires { ⌜ Known (now text) (now rows) (now declared) (now types) (reading .count)
+        × Indexed (now text) 1 (now rows) (now connected) (reading .count) ⌝ }
     ensures { λ r. ⌜ r ≡ worst fault (endFaults (lift (now (text .entry)) (reading .went)) long
         (judged (now (text .entry)) (rowsIn (reading .count) (now (rows .entry))))) ⌝ }
 {
@@ -264,7 +267,8 @@ fn bytes_read(bytes: usize) -> usize
 // The plain text of what is read of a text, and how many bytes it has.
 fn plain_bytes(text: &[u8], plain: &mut [u8]) -> usize
     requires { ⌜ mostBytes ≤ length (now plain) ⌝ }
-    ensures { λ r. ⌜ (r ≤ mostBytes) × (r ≤ length (now (plain .exit))) × (take r (now (plain .exit)) ≡ plainText (now (text .entry))) ⌝ }
+    ensures { λ r. ⌜ (r ≤ mostBytes) × (r ≤ length (now (plain .exit)))
+        × (take r (now (plain .exit)) ≡ plainText (now (text .entry))) ⌝ }
 {
     let n = bytes_read(text.len());
     make_plain(&text[..n], &mut plain[..n]);
@@ -282,7 +286,8 @@ fn read_plain(
     long: bool,
 ) -> Read
     requires { ⌜ (length (now text) ≤ mostBytes)
-        × (enough mostBytes (length (now rows)) (length (now declared)) (length (now connected)) (length (now queued)) (length (now types)) ≡ true) ⌝ }
+        × (enough mostBytes (length (now rows)) (length (now declared)) (length (now connected))
+        (length (now queued)) (length (now types)) ≡ true) ⌝ }
     ensures { λ r. ⌜ r ≡ answerPlain (now (text .entry)) long ⌝ }
 {
     let reading = read(text, rows);

@@ -1,6 +1,8 @@
 -- Lines behind lines, masks, and points behind bytes.
-use Rattle.common.specs.Words.{ℕ, zero, suc, _+_, _*_, _^_, _≤_, _<_, min, arith, add-one, Bool, cond, true, false, List, [], _∷_, _++_, append-assoc}
-use Rattle.common.specs.Words.{_≡_, refl, _∙_, sym, ap, length, getD, pow-suc, pow-le-pow-right, zero-add, length-append, sets, take, take-suc, take-all, length-take, eqb, leb, leb-true, leb-false}
+use Rattle.common.specs.Words.{ℕ, zero, suc, _+_, _*_, _^_, _≤_, _<_, min, arith, add-one, Bool, cond}
+use Rattle.common.specs.Words.{true, false, List, [], _∷_, _++_, append-assoc}
+use Rattle.common.specs.Words.{_≡_, refl, _∙_, sym, ap, length, getD, pow-suc, pow-le-pow-right, zero-add, length-append}
+use Rattle.common.specs.Words.{sets, take, take-suc, take-all, length-take, eqb, leb, leb-true, leb-false}
 use Rattle.common.specs.Stores.{sets-append}
 use Rattle.plan.specs.Limits.{taskLimit}
 use Rattle.digits.specs.Hex.{digits}
@@ -17,7 +19,8 @@ use Rattle.report.specs.Places.{past, first, behind}
 
 -- the line feed behind digits
 pub line-at : (bytes out before after : List ℕ) (i j : ℕ) →
-    before ≡ sets out i (digits bytes) → after ≡ sets before j (10 ∷ []) → i + 2 * length bytes ≡ j → after ≡ sets out i (lineOf bytes)
+    before ≡ sets out i (digits bytes) → after ≡ sets before j (10 ∷ []) →
+    i + 2 * length bytes ≡ j → after ≡ sets out i (lineOf bytes)
 unfolding lineOf
 line-at bytes out before after i j e f g =
     let z : i + length (digits bytes) ≡ j = omega (arith, digits-length bytes, g) in
@@ -106,11 +109,18 @@ table-length period deadline receiver sends m n =
     let t = eachTask period deadline m in
     let q = eachQueue receiver sends n in
     length-append t (q ++ lineOf (0x03 ∷ []))
-    ∙ omega (arith, length-append q (lineOf (0x03 ∷ [])), line-length (0x03 ∷ []), tasks-length period deadline m, queues-length receiver sends n)
+    ∙ omega (
+      arith,
+      length-append q (lineOf (0x03 ∷ [])),
+      line-length (0x03 ∷ []),
+      tasks-length period deadline m,
+      queues-length receiver sends n,
+    )
 
 -- three runs, each behind the one before
 pub runs : (a b c out o p after : List ℕ) (j k : ℕ) →
-    o ≡ sets out 0 a → p ≡ sets o j b → after ≡ sets p k c → length a ≡ j → j + length b ≡ k → after ≡ sets out 0 (a ++ (b ++ c))
+    o ≡ sets out 0 a → p ≡ sets o j b → after ≡ sets p k c → length a ≡ j →
+    j + length b ≡ k → after ≡ sets out 0 (a ++ (b ++ c))
 runs a b c out o p after j k e f g x y =
     rw (sets-append a (b ++ c) out 0, zero-add (length a), sets-append b c (sets out 0 a) (length a))
     (g ∙ rw (f, e, ← y, ← x))
@@ -143,7 +153,8 @@ unfolding behind
 behind-more p [] b = refl
 behind-more p (a ∷ bytes) b = behind-more (past p a) bytes b
 
-pub point-more : (text : List ℕ) (i : ℕ) → i < length text → past (behind first (take i text)) (getD text i 0) ≡ behind first (take (i + 1) text)
+pub point-more : (text : List ℕ) (i : ℕ) → i < length text →
+    past (behind first (take i text)) (getD text i 0) ≡ behind first (take (i + 1) text)
 point-more text i h = sym (behind-more first (take i text) (getD text i 0)) ∙ rw (add-one i, take-suc text i 0 h)
 
 -- one byte more adds one at most

@@ -8,7 +8,8 @@ ghost use Rattle.common.specs.Words.{_≡_, [], _∷_, _+_, _*_, _≤_, _<_, co
 ghost use Rattle.plan.specs.Limits.{taskLimit, queueLimit};
 ghost use Rattle.frames.specs.Answers.{lineOf};
 ghost use Rattle.frames.specs.Writing.{Written};
-ghost use Rattle.report.specs.Lines.{linesRoom, taskLine, queueLine, maskOf, sender, taskBytes, queueBytes, eachTask, eachQueue, tableLines, unreadBytes};
+ghost use Rattle.report.specs.Lines.{linesRoom, taskLine, queueLine, maskOf, sender, taskBytes, queueBytes, eachTask};
+ghost use Rattle.report.specs.Lines.{eachQueue, tableLines, unreadBytes};
 
 // Enough for the lines of any table.
 pub const LINES_ROOM: usize = 256;
@@ -106,7 +107,8 @@ fn put_go(out: &mut [u8], at: usize) -> usize
 // The lines 01 for each thread, 02 for each queue, then 03, and how many bytes they have.
 pub fn write_table(out: &mut [u8], plan: Plan) -> usize
     requires { ⌜ linesRoom ≤ length (now out) ⌝ }
-    ensures { λ r. ⌜ (r ≡ length (tableLines plan)) × (r ≤ linesRoom) × (now (out .exit) ≡ sets (now (out .entry)) 0 (tableLines plan)) ⌝ }
+    ensures { λ r. ⌜ (r ≡ length (tableLines plan)) × (r ≤ linesRoom)
+        × (now (out .exit) ≡ sets (now (out .entry)) 0 (tableLines plan)) ⌝ }
 {
     let tasks = least(plan.tasks, Plan::TASKS);
     let queues = least(plan.queues, Plan::QUEUES);

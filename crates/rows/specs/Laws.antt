@@ -1,5 +1,6 @@
 -- Laws of rules that say more: what is done in a row, by a choice, again and again, with properties of its own.
-use Rattle.common.specs.Words.{ℕ, zero, suc, _+_, _<_, _≤_, arith, Bool, true, false, true≢false, cond, List, [], _∷_, _++_, append-nil, append-assoc}
+use Rattle.common.specs.Words.{ℕ, zero, suc, _+_, _<_, _≤_, arith, Bool, true, false, true≢false, cond}
+use Rattle.common.specs.Words.{List, [], _∷_, _++_, append-nil, append-assoc}
 use Rattle.common.specs.Words.{_≡_, refl, sym, ap, _∙_, length}
 use Rattle.tokens.specs.Tokens.{Token}
 use Rattle.tokens.specs.Laws.{cases}
@@ -55,17 +56,21 @@ pub does-then-at : (s : State) (f h : Rule) (g : List Token → Rule) → ((ts :
 unfolding does
 does-then-at s f h g =
     by-went (λ (s : State). ((ts : List Token) → s .went ≡ On ts → h ≡ g ts) → does (does s f) h ≡ does s (λ ps ts. f ps ts ⨟ g ts))
-    (λ ts qs x t e. rw (e ts refl) (let a = f qs ts in does-after (state (On ts) qs x t) (a .went) (a .props) (a .rows) (a .notes) (g ts))) (λ f qs x t e. refl) s
+    (λ ts qs x t e. rw (e ts refl) (let a = f qs ts in does-after (state (On ts) qs x t)
+    (a .went) (a .props) (a .rows) (a .notes) (g ts))) (λ f qs x t e. refl) s
 
 -- the same, where h is what it comes to only if the rule before it went on
 pub does-then-going : (s : State) (f h : Rule) (g : List Token → Rule) →
-    ((ts : List Token) → s .went ≡ On ts → going (f (s .props) ts .went) ≡ true → h ≡ g ts) → does (does s f) h ≡ does s (λ ps ts. f ps ts ⨟ g ts)
+    ((ts : List Token) → s .went ≡ On ts → going (f (s .props) ts .went) ≡ true → h ≡ g ts) →
+    does (does s f) h ≡ does s (λ ps ts. f ps ts ⨟ g ts)
 unfolding does
 does-then-going s f h g =
-    by-went (λ (s : State). ((ts : List Token) → s .went ≡ On ts → going (f (s .props) ts .went) ≡ true → h ≡ g ts) → does (does s f) h ≡ does s (λ ps ts. f ps ts ⨟ g ts))
+    by-went (λ (s : State). ((ts : List Token) → s .went ≡ On ts → going (f (s .props) ts .went) ≡ true → h ≡ g ts) →
+    does (does s f) h ≡ does s (λ ps ts. f ps ts ⨟ g ts))
     (λ ts qs x t e. let a = f qs ts in from-there ts qs x t (a .went) (a .props) (a .rows) (a .notes) (e ts refl)) (λ f qs x t e. refl) s
   where
-    from-there : (ts : List Token) (qs : List ℕ) (x : Fault) (t : Store) (w : Step) (ps : List ℕ) (is : List Row) (ns : List Fault) → (going w ≡ true → h ≡ g ts) →
+    from-there : (ts : List Token) (qs : List ℕ) (x : Fault) (t : Store) (w : Step) (ps : List ℕ) (is : List Row) (ns : List Fault) →
+        (going w ≡ true → h ≡ g ts) →
         does (effect (state (On ts) qs x t) (said w ps is ns)) h ≡ effect (state (On ts) qs x t) (said w ps is ns ⨟ g ts)
     from-there ts qs x t (On us) ps is ns e = rw (e refl) (does-after (state (On ts) qs x t) (On us) ps is ns (g ts))
     from-there ts qs x t (Stop y) ps is ns e = refl
@@ -81,12 +86,14 @@ module _ (b : List Token → Bool) (f g : Rule) where
   pub does-on : (s : State) → holds b (s .went) ≡ true → does s f ≡ does s (λ ps ts. cond (b ts) (f ps ts) (g ps ts))
   unfolding does
   does-on s =
-      by-went (λ (s : State). holds b (s .went) ≡ true → does s f ≡ does s (λ ps ts. cond (b ts) (f ps ts) (g ps ts))) (λ ts qs x t h. rw h) (λ f qs x t h. refl) s
+      by-went (λ (s : State). holds b (s .went) ≡ true → does s f ≡ does s (λ ps ts. cond (b ts) (f ps ts) (g ps ts)))
+      (λ ts qs x t h. rw h) (λ f qs x t h. refl) s
 
   pub does-off : (s : State) → holds b (s .went) ≡ false → does s g ≡ does s (λ ps ts. cond (b ts) (f ps ts) (g ps ts))
   unfolding does
   does-off s =
-      by-went (λ (s : State). holds b (s .went) ≡ false → does s g ≡ does s (λ ps ts. cond (b ts) (f ps ts) (g ps ts))) (λ ts qs x t h. rw h) (λ f qs x t h. refl) s
+      by-went (λ (s : State). holds b (s .went) ≡ false → does s g ≡ does s (λ ps ts. cond (b ts) (f ps ts) (g ps ts)))
+      (λ ts qs x t h. rw h) (λ f qs x t h. refl) s
 
 stay : Rule
 stay ps ts = said (On ts) ps [] []
@@ -174,7 +181,8 @@ module _ (b : List Token → Bool) (r : Rule) (adv : AdvancesOn b r) where
   repeat-enough (suc n) zero ps ts x y = absurd (omega arith)
   repeat-enough (suc n) (suc m) ps ts x y = go (b ts) refl (λ qs rest l. repeat-enough n m qs rest (omega arith) (omega arith))
     where
-      go : (t : Bool) → b ts ≡ t → ((qs : List ℕ) (rest : List Token) → length rest < length ts → repeatBy n b r qs rest ≡ repeatBy m b r qs rest) →
+      go : (t : Bool) → b ts ≡ t → ((qs : List ℕ) (rest : List Token) →
+          length rest < length ts → repeatBy n b r qs rest ≡ repeatBy m b r qs rest) →
           cond t (r ps ts ⨟ repeatBy n b r) (said (On ts) ps [] []) ≡ cond t (r ps ts ⨟ repeatBy m b r) (said (On ts) ps [] [])
       go true e f = onward-same (r ps ts) (repeatBy n b r) (repeatBy m b r) (adv ps ts e) f
       go false e f = refl
@@ -184,7 +192,8 @@ module _ (b : List Token → Bool) (r : Rule) (adv : AdvancesOn b r) where
   repeat-step ps ts = go (b ts) refl
     where
       go : (t : Bool) → b ts ≡ t →
-          cond t (r ps ts ⨟ repeatBy (length ts) b r) (said (On ts) ps [] []) ≡ cond t (r ps ts ⨟ (λ qs us. repeatBy (suc (length us)) b r qs us)) (said (On ts) ps [] [])
+          cond t (r ps ts ⨟ repeatBy (length ts) b r) (said (On ts) ps [] [])
+          ≡ cond t (r ps ts ⨟ (λ qs us. repeatBy (suc (length us)) b r qs us)) (said (On ts) ps [] [])
       go true e =
           onward-same (r ps ts) (repeatBy (length ts) b r) (λ qs us. repeatBy (suc (length us)) b r qs us) (adv ps ts e)
           (λ qs rest l. repeat-enough (length ts) (suc (length rest)) qs rest (omega arith) (omega arith))
@@ -231,7 +240,8 @@ pub does-adding : (s : State) (f : Rule) → holds (λ ts. true) (s .went) ≡ t
     withProps (merged (s .props) (does (fresh s) f .props)) (does (fresh s) f) ≡ does s (adding f)
 unfolding does adding
 does-adding s f =
-    by-went (λ (s : State). holds (λ ts. true) (s .went) ≡ true → withProps (merged (s .props) (does (fresh s) f .props)) (does (fresh s) f) ≡ does s (adding f))
+    by-went (λ (s : State). holds (λ ts. true) (s .went) ≡ true →
+    withProps (merged (s .props) (does (fresh s) f .props)) (does (fresh s) f) ≡ does s (adding f))
     (λ ts qs x t h. refl) (λ f qs x t h. absurd (true≢false (sym h))) s
 
 -- ## What is declared
@@ -240,15 +250,18 @@ pub does-put : (s : State) (row : List ℕ → Row) → holds (λ ts. true) (s .
     state (s .went) (s .props) (s .fault) (kept (s .store) (row (s .props))) ≡ does s (put row)
 unfolding does worst keptAll
 does-put s row =
-    by-went (λ (s : State). holds (λ ts. true) (s .went) ≡ true → state (s .went) (s .props) (s .fault) (kept (s .store) (row (s .props))) ≡ does s (put row))
+    by-went (λ (s : State). holds (λ ts. true) (s .went) ≡ true →
+    state (s .went) (s .props) (s .fault) (kept (s .store) (row (s .props))) ≡ does s (put row))
     (λ ts qs x t h. refl) (λ f qs x t h. absurd (true≢false (sym h))) s
 
 -- the same of a reading: where a rule has stopped nothing more is done, and a row is put where none has
-pub stopped-stays : (p : List ℕ) (r : Reading) (m : List ℕ) (rule : Rule) (f : Fault) → r .went ≡ Went.Stopped f → stateOf p r m ≡ does (stateOf p r m) rule
+pub stopped-stays : (p : List ℕ) (r : Reading) (m : List ℕ) (rule : Rule) (f : Fault) →
+    r .went ≡ Went.Stopped f → stateOf p r m ≡ does (stateOf p r m) rule
 unfolding does
 stopped-stays p r m rule f e = rw e
 
 pub put-goes : (p : List ℕ) (r : Reading) (m l : List ℕ) (n at : ℕ) (row : List ℕ → Row) → r .went ≡ Went.To at →
-    store l n ≡ kept (store m (r .count)) (row (r .props)) → stateOf p (reading (r .went) (r .props) n (r .fault)) l ≡ does (stateOf p r m) (put row)
+    store l n ≡ kept (store m (r .count)) (row (r .props)) →
+    stateOf p (reading (r .went) (r .props) n (r .fault)) l ≡ does (stateOf p r m) (put row)
 unfolding does worst keptAll
 put-goes p r m l n at row e h = rw (e, h)

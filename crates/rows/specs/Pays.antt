@@ -48,7 +48,8 @@ pub pays-put : (row : List ℕ → Row) → Pays 9 0 (put row)
 pays-put row ps ts = on {rest = ts} (omega arith)
 
 -- one rule after another: what the first leaves over pays for the second
-pub paid-onward : {d n e m : ℕ} {ts : List Token} (s : Said) (g : Rule) → PaidBy d n ts s → Pays e m g → PaidBy (d + (e - n)) (n - e + m) ts (s ⨟ g)
+pub paid-onward : {d n e m : ℕ} {ts : List Token} (s : Said) (g : Rule) → PaidBy d n ts s →
+    Pays e m g → PaidBy (d + (e - n)) (n - e + m) ts (s ⨟ g)
 paid-onward {d} {n} {e} {m} {ts} s g a b = go (s .went) a
   where
     then-paid : {us : List Token} {rows : ℕ} {w : Step} → 9 * length (s .rows) + (n + weight us) ≤ d + weight ts → Paid e m us rows w →
@@ -84,7 +85,8 @@ module _ (b : List Token → Bool) (r : Rule) (h : Pays 0 0 r) where
   repeat-by-pays : (n : ℕ) → Pays 0 0 (repeatBy n b r)
   unfolding repeatBy
   repeat-by-pays zero ps ts = paid-none 0 ps ts
-  repeat-by-pays (suc n) ps ts = cases (PaidBy 0 0 ts) (b ts) (λ _. paid-onward (r ps ts) (repeatBy n b r) (h ps ts) (repeat-by-pays n)) (λ _. paid-none 0 ps ts)
+  repeat-by-pays (suc n) ps ts = cases (PaidBy 0 0 ts) (b ts) (λ _. paid-onward (r ps ts) (repeatBy n b r) (h ps ts) (repeat-by-pays n))
+      (λ _. paid-none 0 ps ts)
 
   pub pays-repeat : Pays 0 0 (repeat b r)
   unfolding repeat

@@ -67,7 +67,8 @@ module _ (b : List Token → Bool) (r : Rule) (h : WideOn r) where
   repeat-by-wide : (n : ℕ) → WideOn (repeatBy n b r)
   unfolding repeatBy
   repeat-by-wide zero ps ts = wide-silent _ refl
-  repeat-by-wide (suc n) ps ts = cases Wide (b ts) (λ _. wide-onward (r ps ts) (repeatBy n b r) (h ps ts) (repeat-by-wide n)) (λ _. wide-silent _ refl)
+  repeat-by-wide (suc n) ps ts = cases Wide (b ts) (λ _. wide-onward (r ps ts) (repeatBy n b r) (h ps ts) (repeat-by-wide n))
+      (λ _. wide-silent _ refl)
 
   pub wide-repeat : WideOn (repeat b r)
   unfolding repeat

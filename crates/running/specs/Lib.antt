@@ -3,6 +3,5 @@ pub mod Types
 pub mod Calls
 pub mod View
 pub mod Outcomes
-pub mod Known
 pub mod Bounds
 pub mod Stepping

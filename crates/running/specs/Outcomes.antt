@@ -39,23 +39,23 @@ module _ (p : Plan) (m : List ℕ) where
   start-is-clear e =
       no-refusal (startLines p m) Started.Refused Started.Ready Started.Ready (λ r f. let z : _≡_ {A = ℕ} 0 1 = cc in omega arith) e
 
-module _ (before sent : ℕ) (p : Plan) (m : List ℕ) (q i t : ℕ) (payload : List ℕ) where
+module _ (before unsent : ℕ) (p : Plan) (m : List ℕ) (q i t : ℕ) (payload : List ℕ) where
   abbrev lines : List Line
-  lines = sendLines before sent p m q i t payload
+  lines = sendLines before unsent p m q i t payload
 
   pub sent-refused : (r : Refusal) {v : Verdict} → v ≡ verdict lines → v ≡ Verdict.Refused r →
-      (sendAnswer before sent p m q i t payload ≡ Sent.Refused r) × (sendMemory before sent p m q i t payload ≡ m)
+      (sendAnswer before unsent p m q i t payload ≡ Sent.Refused r) × (sendMemory before unsent p m q i t payload ≡ m)
   unfolding sendAnswer sendMemory
   sent-refused r f g = let e = sym f ∙ g in (by-refusal lines Sent.Refused _ r e, by-refusal lines (λ r. m) _ r e)
 
   pub sent-clear : {v : Verdict} → v ≡ verdict lines → v ≡ Verdict.Clear →
       let n = runningNumber (queueAt p q) i t in
-      (sendAnswer before sent p m q i t payload ≡ Sent.Stored (message n) (slot (slotIn p q n)))
-      × (sendMemory before sent p m q i t payload ≡ stored payloadBytes m (slotFor p q n) n payload)
+      (sendAnswer before unsent p m q i t payload ≡ Sent.Stored (message n) (slot (slotIn p q n)))
+      × (sendMemory before unsent p m q i t payload ≡ stored payloadBytes m (slotFor p q n) n payload)
   unfolding sendAnswer sendMemory
   sent-clear f g = let e = sym f ∙ g in (by-clear lines Sent.Refused _ e, by-clear lines (λ r. m) _ e)
 
-  pub send-is-clear : (n : Number) (at : Slot) → sendAnswer before sent p m q i t payload ≡ Sent.Stored n at → verdict lines ≡ Verdict.Clear
+  pub send-is-clear : (n : Number) (at : Slot) → sendAnswer before unsent p m q i t payload ≡ Sent.Stored n at → verdict lines ≡ Verdict.Clear
   unfolding sendAnswer
   send-is-clear n at e =
       no-refusal lines Sent.Refused _ (Sent.Stored n at) (λ r f. let z : _≡_ {A = ℕ} 0 1 = cc in omega arith) e

@@ -26,14 +26,14 @@ abbrev pub CanRecord : List ℕ → ℕ → ℕ → ℕ → Sent → Type 0
 CanRecord period q i t (Sent.Stored n at) = Storing period q i t
 CanRecord period q i t (Sent.Refused r) = Unit {0}
 
-pub send-records : (before sent : ℕ) (p : Plan) (m : List ℕ) (q i t : ℕ) (payload : List ℕ) →
-    CanRecord (p .period) q i t (sendAnswer before sent p m q i t payload)
-send-records before sent p m q i t payload = go (sendAnswer before sent p m q i t payload) refl
+pub send-records : (before unsent : ℕ) (p : Plan) (m : List ℕ) (q i t : ℕ) (payload : List ℕ) →
+    CanRecord (p .period) q i t (sendAnswer before unsent p m q i t payload)
+send-records before unsent p m q i t payload = go (sendAnswer before unsent p m q i t payload) refl
   where
-    go : (a : Sent) → sendAnswer before sent p m q i t payload ≡ a → CanRecord (p .period) q i t a
+    go : (a : Sent) → sendAnswer before unsent p m q i t payload ≡ a → CanRecord (p .period) q i t a
     go (Sent.Refused r) e = tt
     go (Sent.Stored n at) e =
-        let x = send-taken before sent p m q i t payload refl (send-is-clear before sent p m q i t payload n at e) in
+        let x = send-taken before unsent p m q i t payload refl (send-is-clear before unsent p m q i t payload n at e) in
         let u = usable (x .ground .sound) q (x .queue) in
         let f = sender-fits u (x .sender) in
         record {
@@ -42,10 +42,6 @@ send-records before sent p m q i t payload = go (sendAnswer before sent p m q i 
           period-counts = f .1 .0;
           job-fits = omega (arith, x .tick-within, div-le-self t (getD (p .period) i 0));
         }
-
-pub stored-fits : (before sent : ℕ) (p : Plan) (m : List ℕ) (q i t : ℕ) (payload : List ℕ) {a : Sent} {n : Number} {at : Slot} →
-    a ≡ sendAnswer before sent p m q i t payload → a ≡ Sent.Stored n at → Storing (p .period) q i t
-stored-fits before sent p m q i t payload is e = rw (sym is ∙ e) at (send-records before sent p m q i t payload)
 
 -- ## Receive
 
@@ -67,23 +63,23 @@ found-steps p m q n a b = go (eqb (numberIn payloadBytes m (slotFor p q n)) n)
     go true = (a, b)
     go false = (a, b)
 
-accepted-steps : (before reading : ℕ) (p : Plan) (m : List ℕ) (q t : ℕ) → ReceiveTaken before p m q t → CanStep q (accepted reading p m q t)
-accepted-steps before reading p m q t x = go (ltb (last (queueAt p q) (receivingJob (queueAt p q) t)) (nextNumber reading p q t)) refl
+accepted-steps : (before unread : ℕ) (p : Plan) (m : List ℕ) (q t : ℕ) → ReceiveTaken before p m q t → CanStep q (accepted unread p m q t)
+accepted-steps before unread p m q t x = go (ltb (last (queueAt p q) (receivingJob (queueAt p q) t)) (nextNumber unread p q t)) refl
   where
-    go : (b : Bool) → ltb (last (queueAt p q) (receivingJob (queueAt p q) t)) (nextNumber reading p q t) ≡ b →
-        CanStep q (cond b Received.Empty (found p m q (nextNumber reading p q t)))
+    go : (b : Bool) → ltb (last (queueAt p q) (receivingJob (queueAt p q) t)) (nextNumber unread p q t) ≡ b →
+        CanStep q (cond b Received.Empty (found p m q (nextNumber unread p q t)))
     go true e = tt
     go false e =
         let w = window-small (x .ground) q (x .queue) t (x .tick-within) in
-        found-steps p m q (nextNumber reading p q t) (omega (arith, x .queue, x .ground .sound .checked .queues-fit))
-        (omega (arith, w .0, w .1, ltb-false (last (queueAt p q) (receivingJob (queueAt p q) t)) (nextNumber reading p q t) e))
+        found-steps p m q (nextNumber unread p q t) (omega (arith, x .queue, x .ground .sound .checked .queues-fit))
+        (omega (arith, w .0, w .1, ltb-false (last (queueAt p q) (receivingJob (queueAt p q) t)) (nextNumber unread p q t) e))
 
-pub look-steps : (before reading : ℕ) (p : Plan) (m : List ℕ) (q t : ℕ) → CanStep q (look before reading p m q t)
+pub look-steps : (before unread : ℕ) (p : Plan) (m : List ℕ) (q t : ℕ) → CanStep q (look before unread p m q t)
 unfolding look
-look-steps before reading p m q t = go (verdict (receiveLines before p m q t)) refl
+look-steps before unread p m q t = go (verdict (receiveLines before p m q t)) refl
   where
-    go : (v : Verdict) → verdict (receiveLines before p m q t) ≡ v → CanStep q (look before reading p m q t)
-    go (Verdict.Refused r) e = rw (by-refusal (receiveLines before p m q t) Received.Refused (accepted reading p m q t) r e) tt
+    go : (v : Verdict) → verdict (receiveLines before p m q t) ≡ v → CanStep q (look before unread p m q t)
+    go (Verdict.Refused r) e = rw (by-refusal (receiveLines before p m q t) Received.Refused (accepted unread p m q t) r e) tt
     go Verdict.Clear e =
-        rw (by-clear (receiveLines before p m q t) Received.Refused (accepted reading p m q t) e)
-        (accepted-steps before reading p m q t (receive-taken before p m q t (sym e) refl))
+        rw (by-clear (receiveLines before p m q t) Received.Refused (accepted unread p m q t) e)
+        (accepted-steps before unread p m q t (receive-taken before p m q t (sym e) refl))

@@ -1,12 +1,14 @@
-// The running calls on a plan: what start, send and receive answer, and what start and send do to the slots in lent memory. Each is told the
-// two numbers that it looks at in a state, its tick and one entry more, because a caller that keeps a state where it lies hands in no more.
-// The state is the crate mailbox's. Which bytes a receive's answer is about is defined in specs/View.antt, and shown by the crate `view`.
+// The running calls: what start, send and receive answer, what start and send do to the slots in lent memory, and what send and receive
+// leave of a state. A call is lent the columns of a plan and the one column of a state that it changes, so that a caller keeps both where
+// they lie; the state's tick is handed in and comes back beside the answer. The state itself is the crate mailbox's. Which bytes a receive's
+// answer is about is defined in specs/View.antt, and shown by the crate `view`.
 pub mod start; // start.rt: start
 pub mod send; // send.rt: send
-pub mod receive; // receive.rt: receive, a look that changes nothing
+pub mod receive; // receive.rt: receive, a look and a step on
 
 use calendar::Number;
 use calendar::Slot;
+use calendar::Tick;
 use plan::refusal::Refusal;
 
 pub enum Started {
@@ -26,4 +28,15 @@ pub enum Received {
     Gap(Number, usize),
     Empty,
     Refused(Refusal),
+}
+
+// What a send or a receive answers, and the state's tick after it.
+pub struct SentAt {
+    pub answer: Sent,
+    pub tick: Tick,
+}
+
+pub struct ReceivedAt {
+    pub answer: Received,
+    pub tick: Tick,
 }

@@ -1,18 +1,22 @@
-// Receive: a look at the receiver's next message, which changes nothing. `receive_on` is lent the columns of a plan, as `send_on` is.
+// Receive: a look at the receiver's next message, which changes nothing, and then a step on from the answer. The columns are lent, as to a
+// send.
 use crate::Received;
+use crate::ReceivedAt;
+use calendar::Number;
 use calendar::Tick;
 use plan::Plan;
-use plan::refusal::Refusal;
-use plan::refusal::Rule;
 use plan::refusal::Verdict;
-ghost use Rattle.common.specs.Words.{_≡_, true};
+ghost use Rattle.common.specs.Words.{_≡_, _+_, _<_, _≤_, getD, set};
+ghost use Rattle.calendar.specs.Calendar.{tick};
+ghost use Rattle.plan.specs.Limits.{queueLimit};
 ghost use Rattle.plan.specs.Plan.{lentPlan};
 ghost use Rattle.plan.specs.Rules.{soundPlan};
-ghost use Rattle.running.specs.Calls.{look};
+ghost use Rattle.running.specs.Calls.{look, readTick, readPlaces, ReceiveLeaves};
+ghost use Rattle.running.specs.Stepping.{mostNumber, CanStep};
 
-// Answers as a receive does: `last` is the state's tick, and `reading` the reading place of the queue. It is for callers that have tested
-// rule 7.
-pub fn receive_on<'a>(
+// Answers as a receive does. `sound` says whether the plan is; `before` is the state's tick, and `reading` its column of reading places.
+fn look_on<'a>(
+    sound: bool,
     sends: &'a [bool; Plan::CELLS],
     period: &'a [u64; Plan::TASKS],
     deadline: &'a [u64; Plan::TASKS],
@@ -24,15 +28,17 @@ pub fn receive_on<'a>(
     memory: &[u8],
     queue: usize,
     at: Tick,
-    last: Tick,
-    reading: u64,
+    before: Tick,
+    reading: &[u64; Plan::QUEUES],
 ) -> Received
-    requires { ⌜ soundPlan (lentPlan (now sends) (now period) (now deadline) (now receiver) (now size) (now place) tasks queues) ≡ true ⌝ }
-    ensures { λ r. ⌜ r ≡ look (last .0) reading
-        (lentPlan (now (sends .entry)) (now (period .entry)) (now (deadline .entry)) (now (receiver .entry)) (now (size .entry)) (now (place .entry)) tasks queues)
+    requires { ⌜ sound ≡ soundPlan (lentPlan (now sends) (now period) (now deadline) (now receiver) (now size) (now place) tasks queues) ⌝ }
+    ensures { λ r. ⌜ r ≡ look (before .0) (getD (now (reading .entry)) queue 0)
+        (lentPlan (now (sends .entry)) (now (period .entry)) (now (deadline .entry)) (now (receiver .entry))
+        (now (size .entry)) (now (place .entry)) tasks queues)
         (now (memory .entry)) queue (at .0) ⌝ }
 {
     let verdict = judge::judge_receive(
+        sound,
         sends,
         period,
         deadline,
@@ -44,7 +50,7 @@ pub fn receive_on<'a>(
         memory,
         queue,
         at,
-        last,
+        before,
     );
     if let Verdict::Refused(refusal) = verdict {
         return Received::Refused(refusal);
@@ -52,8 +58,8 @@ pub fn receive_on<'a>(
     let row = receiver[queue];
     let every = period[row];
     let window = window::window_at(sends, period, deadline, tasks, queue, every, at);
-    let next = window::next_number(reading, window.before);
-    if window.end < next.0 {
+    let next = window::next_number(Number(reading[queue]), window.before);
+    if window.end.0 < next.0 {
         return Received::Empty;
     }
     let slot = slots::places::slot_for(place[queue], size[queue], next);
@@ -74,36 +80,74 @@ pub fn receive_on<'a>(
     Received::Gap(next, sender)
 }
 
-// What a receive answers on a plan that is tested first. `last` and `reading` are what `receive_on` is told of a state.
-pub fn received(
-    plan: Plan,
-    memory: &[u8],
+// The queue is read past a number, at a tick.
+fn read_past(reading: &mut [u64; Plan::QUEUES], queue: usize, at: Tick, number: Number) -> Tick
+    requires { ⌜ (queue < queueLimit) × (number .0 ≤ mostNumber) ⌝ }
+    ensures { λ r. ⌜ (r ≡ at) × (now (reading .exit) ≡ set (now (reading .entry)) queue (number .0 + 1)) ⌝ }
+{
+    reading[queue] = number.0 + 1;
+    at
+}
+
+// Steps on from an answer: past the number of a message or a gap. Gives the state's tick after it, which an empty answer sets too.
+fn step_on(
+    reading: &mut [u64; Plan::QUEUES],
     queue: usize,
     at: Tick,
-    last: Tick,
-    reading: u64,
-) -> Received
-    ensures { λ r. ⌜ r ≡ look (last .0) reading plan (now (memory .entry)) queue (at .0) ⌝ }
+    before: Tick,
+    answer: Received,
+) -> Tick
+    requires { ⌜ CanStep queue answer ⌝ }
+    ensures { λ r. ⌜ (r ≡ tick (readTick answer (before .0) (at .0)))
+        × (now (reading .exit) ≡ readPlaces answer (now (reading .entry)) queue) ⌝ }
 {
-    if !soundness::sound(plan) {
-        return Received::Refused(Refusal {
-            rule: Rule::UnsoundPlan,
-            row: 0,
-        });
+    match answer {
+        Received::Message(number, _) => read_past(reading, queue, at, number),
+        Received::Gap(number, _) => read_past(reading, queue, at, number),
+        Received::Empty => at,
+        Received::Refused(_) => before,
     }
-    receive_on(
-        &plan.sends,
-        &plan.period,
-        &plan.deadline,
-        &plan.receiver,
-        &plan.size,
-        &plan.place,
-        plan.tasks,
-        plan.queues,
+}
+
+// A receive: `sound` says whether the plan is, `before` is the state's tick, and `reading` its column of reading places.
+pub fn receive_on<'a>(
+    sound: bool,
+    sends: &'a [bool; Plan::CELLS],
+    period: &'a [u64; Plan::TASKS],
+    deadline: &'a [u64; Plan::TASKS],
+    receiver: &'a [usize; Plan::QUEUES],
+    size: &'a [usize; Plan::QUEUES],
+    place: &'a [usize; Plan::QUEUES],
+    tasks: usize,
+    queues: usize,
+    memory: &[u8],
+    reading: &mut [u64; Plan::QUEUES],
+    queue: usize,
+    at: Tick,
+    before: Tick,
+) -> ReceivedAt
+    requires { ⌜ sound ≡ soundPlan (lentPlan (now sends) (now period) (now deadline) (now receiver) (now size) (now place) tasks queues) ⌝ }
+    ensures { λ r. ⌜ ReceiveLeaves (before .0) (now (reading .entry))
+        (lentPlan (now (sends .entry)) (now (period .entry)) (now (deadline .entry)) (now (receiver .entry))
+        (now (size .entry)) (now (place .entry)) tasks queues)
+        (now (memory .entry)) queue (at .0) r (now (reading .exit)) ⌝ }
+{
+    let answer = look_on(
+        sound,
+        sends,
+        period,
+        deadline,
+        receiver,
+        size,
+        place,
+        tasks,
+        queues,
         memory,
         queue,
         at,
-        last,
+        before,
         reading,
-    )
+    );
+    let tick = step_on(reading, queue, at, before, answer);
+    ReceivedAt { answer, tick }
 }

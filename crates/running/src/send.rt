@@ -1,19 +1,20 @@
-// Send: a task's message into its slot, at most one for each job. `send_on` is lent the columns of a plan, because a plan by value would be
-// copied for each line of the console.
+// Send: a task's message into its slot, at most one for each job, and the job recorded in the state's column. The columns are lent, because
+// a plan or a state by value would be copied for each line of the console.
 use crate::Sent;
+use crate::SentAt;
 use calendar::Number;
 use calendar::Tick;
 use plan::Plan;
-use plan::refusal::Refusal;
-use plan::refusal::Rule;
 use plan::refusal::Verdict;
 ghost use Rattle.common.specs.Words.{_≡_, true, _<_, _≤_};
-ghost use Rattle.calendar.specs.Calendar.{message};
+ghost use Rattle.calendar.specs.Calendar.{tick, message};
 ghost use Rattle.plan.specs.Limits.{lastTick};
 ghost use Rattle.plan.specs.Plan.{lentPlan};
 ghost use Rattle.plan.specs.Rules.{soundPlan};
+ghost use Rattle.judge.specs.Lines.{unsentAt};
 ghost use Rattle.counting.specs.Columns.{columnsAt, Lent};
-ghost use Rattle.running.specs.Calls.{runningDeadline, runningNumber, sendAnswer, sendMemory};
+ghost use Rattle.running.specs.Calls.{runningDeadline, runningNumber, sendAnswer, sendMemory, sentTick, sentJobs, SendLeaves};
+ghost use Rattle.running.specs.Stepping.{CanRecord};
 
 // The number of the message of a task's job that was released last, from the plan's columns.
 fn running_number<'a>(
@@ -31,12 +32,13 @@ fn running_number<'a>(
 {
     let job = calendar::job_at(period[task], at);
     let due = calendar::deadline_of(period[task], deadline[task], job);
-    Number(counting::number::number_due(sends, period, deadline, tasks, queue, due, task))
+    counting::number::number_due(sends, period, deadline, tasks, queue, due, task)
 }
 
-// Stores a message, and answers as a send does: `last` is the state's tick, and `sent` the job after the last one that the task sent into
-// the queue. It is for callers that have tested rule 7.
-pub fn send_on<'a>(
+// Stores a message, and answers as a send does. `sound` says whether the plan is; `before` is the state's tick, and `sent` its column of
+// jobs.
+fn store_on<'a>(
+    sound: bool,
     sends: &'a [bool; Plan::CELLS],
     period: &'a [u64; Plan::TASKS],
     deadline: &'a [u64; Plan::TASKS],
@@ -50,18 +52,21 @@ pub fn send_on<'a>(
     task: usize,
     at: Tick,
     payload: &[u8],
-    last: Tick,
-    sent: u64,
+    before: Tick,
+    sent: &[u64; Plan::CELLS],
 ) -> Sent
-    requires { ⌜ soundPlan (lentPlan (now sends) (now period) (now deadline) (now receiver) (now size) (now place) tasks queues) ≡ true ⌝ }
-    ensures { λ r. ⌜ (r ≡ sendAnswer (last .0) sent
-        (lentPlan (now (sends .entry)) (now (period .entry)) (now (deadline .entry)) (now (receiver .entry)) (now (size .entry)) (now (place .entry)) tasks queues)
+    requires { ⌜ sound ≡ soundPlan (lentPlan (now sends) (now period) (now deadline) (now receiver) (now size) (now place) tasks queues) ⌝ }
+    ensures { λ r. ⌜ (r ≡ sendAnswer (before .0) (unsentAt (now (sent .entry)) queue task)
+        (lentPlan (now (sends .entry)) (now (period .entry)) (now (deadline .entry)) (now (receiver .entry))
+        (now (size .entry)) (now (place .entry)) tasks queues)
         (now (memory .entry)) queue task (at .0) (now (payload .entry)))
-        × (now (memory .exit) ≡ sendMemory (last .0) sent
-        (lentPlan (now (sends .entry)) (now (period .entry)) (now (deadline .entry)) (now (receiver .entry)) (now (size .entry)) (now (place .entry)) tasks queues)
+        × (now (memory .exit) ≡ sendMemory (before .0) (unsentAt (now (sent .entry)) queue task)
+        (lentPlan (now (sends .entry)) (now (period .entry)) (now (deadline .entry)) (now (receiver .entry))
+        (now (size .entry)) (now (place .entry)) tasks queues)
         (now (memory .entry)) queue task (at .0) (now (payload .entry))) ⌝ }
 {
     let verdict = judge::judge_send(
+        sound,
         sends,
         period,
         deadline,
@@ -75,7 +80,7 @@ pub fn send_on<'a>(
         task,
         at,
         payload,
-        last,
+        before,
         sent,
     );
     if let Verdict::Refused(refusal) = verdict {
@@ -92,42 +97,71 @@ pub fn send_on<'a>(
     Sent::Stored(number, slots::places::slot_in(slots, number))
 }
 
-// What a send answers on a plan that is tested first; where it accepts the message it stores it. `last` and `entry` are what `send_on` is
-// told of a state.
-pub fn sent(
-    plan: Plan,
+// Records what an answer says: where a message was stored, the task's job has sent into the queue. Gives the state's tick after it.
+fn record_on(
+    sent: &mut [u64; Plan::CELLS],
+    period: &[u64; Plan::TASKS],
+    queue: usize,
+    task: usize,
+    at: Tick,
+    before: Tick,
+    answer: Sent,
+) -> Tick
+    requires { ⌜ CanRecord (now period) queue task (at .0) answer ⌝ }
+    ensures { λ r. ⌜ (r ≡ tick (sentTick answer (before .0) (at .0)))
+        × (now (sent .exit) ≡ sentJobs answer (now (sent .entry)) (now (period .entry)) queue task (at .0)) ⌝ }
+{
+    if let Sent::Refused(_) = answer {
+        return before;
+    }
+    let job = calendar::job_at(period[task], at);
+    sent[queue * Plan::TASKS + task] = job.0 + 1;
+    at
+}
+
+// A send: `sound` says whether the plan is, `before` is the state's tick, and `sent` its column of jobs.
+pub fn send_on<'a>(
+    sound: bool,
+    sends: &'a [bool; Plan::CELLS],
+    period: &'a [u64; Plan::TASKS],
+    deadline: &'a [u64; Plan::TASKS],
+    receiver: &'a [usize; Plan::QUEUES],
+    size: &'a [usize; Plan::QUEUES],
+    place: &'a [usize; Plan::QUEUES],
+    tasks: usize,
+    queues: usize,
     memory: &mut [u8],
+    sent: &mut [u64; Plan::CELLS],
     queue: usize,
     task: usize,
     at: Tick,
     payload: &[u8],
-    last: Tick,
-    entry: u64,
-) -> Sent
-    ensures { λ r. ⌜ (r ≡ sendAnswer (last .0) entry plan (now (memory .entry)) queue task (at .0) (now (payload .entry)))
-        × (now (memory .exit) ≡ sendMemory (last .0) entry plan (now (memory .entry)) queue task (at .0) (now (payload .entry))) ⌝ }
+    before: Tick,
+) -> SentAt
+    requires { ⌜ sound ≡ soundPlan (lentPlan (now sends) (now period) (now deadline) (now receiver) (now size) (now place) tasks queues) ⌝ }
+    ensures { λ r. ⌜ SendLeaves (before .0) (now (sent .entry))
+        (lentPlan (now (sends .entry)) (now (period .entry)) (now (deadline .entry)) (now (receiver .entry))
+        (now (size .entry)) (now (place .entry)) tasks queues)
+        (now (memory .entry)) queue task (at .0) (now (payload .entry)) r (now (sent .exit)) (now (memory .exit)) ⌝ }
 {
-    if !soundness::sound(plan) {
-        return Sent::Refused(Refusal {
-            rule: Rule::UnsoundPlan,
-            row: 0,
-        });
-    }
-    send_on(
-        &plan.sends,
-        &plan.period,
-        &plan.deadline,
-        &plan.receiver,
-        &plan.size,
-        &plan.place,
-        plan.tasks,
-        plan.queues,
+    let answer = store_on(
+        sound,
+        sends,
+        period,
+        deadline,
+        receiver,
+        size,
+        place,
+        tasks,
+        queues,
         memory,
         queue,
         task,
         at,
         payload,
-        last,
-        entry,
-    )
+        before,
+        sent,
+    );
+    let tick = record_on(sent, period, queue, task, at, before, answer);
+    SentAt { answer, tick }
 }

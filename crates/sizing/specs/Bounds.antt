@@ -1,7 +1,8 @@
 -- A least size is small: equation 3 bounds it, and periods are bounded.
 use Rattle.common.specs.Words.{ℕ, _+_, _*_, _/_, _≤_, arith, div-le-self, mul-le-mul-right}
 use Rattle.common.specs.Totals.{only, only-most, sum-bound, most-le}
-use Rattle.model.specs.Model.{reach, equation3, slots}
+use Rattle.model.specs.Model.{slots}
+use Rattle.model.specs.Source.{reach, equation3}
 use Rattle.model.specs.Equation3.{slots-bound}
 use Rattle.plan.specs.Limits.{taskLimit, longestPeriod}
 use Rattle.plan.specs.Plan.{queueAt, Usable}
@@ -29,6 +30,7 @@ module _ {p : Plan} {q : ℕ} (u : Usable p q) where
         arith,
         slots-bound (queueAt p q) (u .valid),
         sum-bound (λ i. only (queueAt p q .sends i) (reach (queueAt p q) / queueAt p q .period i + 1)) (p .tasks) (3 * longestPeriod + 1)
-            (λ i l. only-most (queueAt p q .sends i) _ _ (λ y. omega (arith, reach-small, div-le-self (reach (queueAt p q)) (queueAt p q .period i)))),
+            (λ i l. only-most (queueAt p q .sends i) _ _
+            (λ y. omega (arith, reach-small, div-le-self (reach (queueAt p q)) (queueAt p q .period i)))),
         mul-le-mul-right (3 * longestPeriod + 1) (u .tasks-fit),
       )

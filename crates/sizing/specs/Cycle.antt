@@ -2,7 +2,7 @@
 use Rattle.common.specs.Words.{ℕ, Bool, leb}
 use Rattle.model.specs.Model.{hyperperiod, messages}
 use Rattle.plan.specs.Limits.{longestHyperperiod, mostMessages}
-use Rattle.plan.specs.Plan.{queueAt}
+use Rattle.plan.specs.Queues.{queueAt}
 use Rattle.plan.specs.declared.Plan.{Plan}
 
 -- not 4: "hyperperiod over the limit"

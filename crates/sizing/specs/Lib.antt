@@ -2,3 +2,4 @@
 pub mod Cycle
 pub mod Bounds
 pub mod Needs
+pub mod Outdated

@@ -1,6 +1,7 @@
 -- `horizon`, `need` and `rowSlots` of the model, over columns that have no receiver: two numbers stand in its place, its period, here
 -- `chart`, and how long its messages are wanted. With a plan's own columns and numbers they are those of its queue.
-use Rattle.common.specs.Words.{ℕ, _+_, _-_, _/_, _<_, _≤_, div-mul-le-self, div-eq-of-lt-le, lt-div-mul-add, lt-of-not-le, arith, _≡_, refl, ap}
+use Rattle.common.specs.Words.{ℕ, _+_, _-_, _/_, _<_, _≤_, div-mul-le-self, div-eq-of-lt-le, lt-div-mul-add, lt-of-not-le, arith, _≡_, refl}
+use Rattle.common.specs.Words.{ap}
 use Rattle.common.specs.Totals.{most}
 use Rattle.model.specs.Model.{Queue, Valid, Sender, released, releaseOf, deadlineOf, dueAt, precedes, upTo, followers, number}
 use Rattle.model.specs.Model.{receiverPeriod, wantedFor, horizon, outdated, need, rowSlots}

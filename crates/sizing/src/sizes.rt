@@ -11,7 +11,8 @@ ghost use Rattle.calendar.specs.Calendar.{tick};
 ghost use Rattle.plan.specs.Limits.{lastTick, longestPeriod, longestHyperperiod};
 ghost use Rattle.plan.specs.Plan.{queueAt, Usable};
 ghost use Rattle.counting.specs.Columns.{columnsAt, Lent};
-ghost use Rattle.sizing.specs.Needs.{horizonFor, numberFor, rowSlotsFor, OutdatedFrom};
+ghost use Rattle.sizing.specs.Needs.{horizonFor, numberFor, rowSlotsFor};
+ghost use Rattle.sizing.specs.Outdated.{outdatedNext};
 
 // The last deadline whose messages are outdated at a tick.
 fn horizon_at(chart: u64, wanted: u64, at: Tick) -> Tick
@@ -27,7 +28,7 @@ fn horizon_at(chart: u64, wanted: u64, at: Tick) -> Tick
 // So many messages are outdated at a release, and at each later one before `until`: the horizon moves once in a chart period.
 struct Outdated {
     count: u64,
-    until: u64,
+    until: Tick,
 }
 
 // What is outdated at a release, from what was known at one before it.
@@ -43,19 +44,18 @@ fn outdated_at<'a>(
     known: Outdated,
 ) -> Outdated
     requires { ⌜ Lent (now sends) (now period) (now deadline) tasks queue
-        × (1 ≤ chart) × (chart ≤ longestPeriod) × (wanted ≤ longestPeriod) × (release .0 ≤ lastTick)
-        × OutdatedFrom (columnsAt (now sends) (now period) (now deadline) tasks queue) chart wanted (release .0) (known .until) (known .count) ⌝ }
-    ensures { λ r. ⌜ (release .0 < r .until)
-        × OutdatedFrom (columnsAt (now (sends .entry)) (now (period .entry)) (now (deadline .entry)) tasks queue) chart wanted (release .0) (r .until) (r .count) ⌝ }
+        × (1 ≤ chart) × (chart ≤ longestPeriod) × (wanted ≤ longestPeriod) × (release .0 ≤ lastTick) ⌝ }
+    ensures { λ r. ⌜ r ≡ outdatedNext
+        (columnsAt (now (sends .entry)) (now (period .entry)) (now (deadline .entry)) tasks queue) chart wanted (release .0) known ⌝ }
 {
-    if release.0 < known.until {
+    if release.0 < known.until.0 {
         return known;
     }
     let horizon = horizon_at(chart, wanted, release);
     let count = counting::count::up_to(sends, period, deadline, tasks, queue, horizon);
     Outdated {
         count,
-        until: horizon.0 + wanted + chart,
+        until: Tick(horizon.0 + wanted + chart),
     }
 }
 
@@ -77,7 +77,8 @@ fn need_of<'a>(
     ensures { λ r. ⌜ r ≡ numberFor (columnsAt (now (sends .entry)) (now (period .entry)) (now (deadline .entry)) tasks queue) task (job .0) - outdated ⌝ }
 {
     let due = calendar::deadline_of(period[task], deadline[task], job);
-    counting::number::number_due(sends, period, deadline, tasks, queue, due, task) - outdated
+    let number = counting::number::number_due(sends, period, deadline, tasks, queue, due, task);
+    number.0 - outdated
 }
 
 fn larger(a: u64, b: u64) -> u64
@@ -105,7 +106,10 @@ fn row_slots<'a>(
 {
     let jobs = ticks / period[task];
     let mut most: u64 = 0;
-    let mut outdated = Outdated { count: 0, until: 0 };
+    let mut outdated = Outdated {
+        count: 0,
+        until: Tick(0),
+    };
     for k in 0..jobs {
         let job = Job(jobs + k);
         let release = calendar::release_of(period[task], job);

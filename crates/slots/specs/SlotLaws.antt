@@ -1,6 +1,7 @@
 -- What is read from a memory after a message was stored in it, or after its slots were cleared: laws of `stored` and `cleared`, over the
 -- payload's width w. They lean on the laws of a run of stores (common's Stores).
-use Rattle.common.specs.Words.{_≡_, refl, sym, _∙_, _⊎_, inl, inr, ⊎-elim, List, [], _∷_, _++_, ℕ, _+_, _*_, _/_, _%_, _≤_, _<_, _^_, add-zero}
+use Rattle.common.specs.Words.{_≡_, refl, sym, _∙_, _⊎_, inl, inr, ⊎-elim, List, [], _∷_, _++_, ℕ, _+_, _*_, _/_, _%_, _≤_, _<_, _^_}
+use Rattle.common.specs.Words.{add-zero}
 use Rattle.common.specs.Words.{div-add-mod', div-div-eq-div-mul, mul-le-mul-right, arith, lit<, length, getD, drop, replicate, length-append}
 use Rattle.common.specs.Words.{length-drop, length-replicate, getD-replicate, List·getD-append, sets, length-sets, drop-at, drop-set-lt}
 use Rattle.common.specs.Tests.{lt-or-le}
@@ -40,7 +41,8 @@ digit n k = rw (← div-div-eq-div-mul n k 256) (sym (div-add-mod' (n / k) 256))
 -- digits of base 256 make the number again: over variables, so that `omega` sees no quotient
 digits :
     (n a b c d e f g r0 r1 r2 r3 r4 r5 r6 : ℕ) →
-    n ≡ a * 256 + r0 → a ≡ b * 256 + r1 → b ≡ c * 256 + r2 → c ≡ d * 256 + r3 → d ≡ e * 256 + r4 → e ≡ f * 256 + r5 → f ≡ g * 256 + r6 →
+    n ≡ a * 256 + r0 → a ≡ b * 256 + r1 → b ≡ c * 256 + r2 → c ≡ d * 256 + r3 → d ≡ e * 256 + r4 → e ≡ f * 256 + r5 →
+    f ≡ g * 256 + r6 →
     joined g r6 r5 r4 * 0x1_0000_0000 + joined r3 r2 r1 r0 ≡ n
 digits n a b c d e f g r0 r1 r2 r3 r4 r5 r6 p0 p1 p2 p3 p4 p5 p6 = omega arith
 

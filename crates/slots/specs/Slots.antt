@@ -1,7 +1,7 @@
 -- Slots in lent memory, over the payload's width w: "A slot is the message number as 8 bytes, high byte first, then the payload;
 -- number 0 means never written."
 use Rattle.common.specs.Words.{List, [], _∷_, _++_, ℕ, _+_, _*_, _/_, _%_, getD, drop, replicate, sets}
-use Rattle.common.specs.Stores.{part}
+use Rattle.common.specs.Terms.{part}
 
 -- "Message n lies in slot n mod L", within its queue of L slots
 abbrev pub slotOf : ℕ → ℕ → ℕ

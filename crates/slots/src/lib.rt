@@ -24,18 +24,18 @@ pub fn clear(memory: &mut [u8], slots: usize)
     }
 }
 
-fn bytes_of(n: u64) -> [u8; NUMBER_BYTES]
-    ensures { λ r. ⌜ r ≡ bytesOf n ⌝ }
+fn bytes_of(number: Number) -> [u8; NUMBER_BYTES]
+    ensures { λ r. ⌜ r ≡ bytesOf (number .0) ⌝ }
 {
     [
-        digits::numbers::low_byte(n / 0x100_0000_0000_0000),
-        digits::numbers::low_byte(n / 0x1_0000_0000_0000),
-        digits::numbers::low_byte(n / 0x100_0000_0000),
-        digits::numbers::low_byte(n / 0x1_0000_0000),
-        digits::numbers::low_byte(n / 0x100_0000),
-        digits::numbers::low_byte(n / 0x1_0000),
-        digits::numbers::low_byte(n / 0x100),
-        digits::numbers::low_byte(n),
+        digits::numbers::low_byte(number.0 / 0x100_0000_0000_0000),
+        digits::numbers::low_byte(number.0 / 0x1_0000_0000_0000),
+        digits::numbers::low_byte(number.0 / 0x100_0000_0000),
+        digits::numbers::low_byte(number.0 / 0x1_0000_0000),
+        digits::numbers::low_byte(number.0 / 0x100_0000),
+        digits::numbers::low_byte(number.0 / 0x1_0000),
+        digits::numbers::low_byte(number.0 / 0x100),
+        digits::numbers::low_byte(number.0),
     ]
 }
 
@@ -55,7 +55,7 @@ pub fn store(memory: &mut [u8], slot: Slot, number: Number, payload: &[u8])
     ensures { λ _. ⌜ now (memory .exit) ≡ stored payloadBytes (now (memory .entry)) (slot .0) (number .0) (now (payload .entry)) ⌝ }
 {
     let at = slot.0 * Plan::SLOT_BYTES;
-    let digits = bytes_of(number.0);
+    let digits = bytes_of(number);
     copy(memory, at, &digits);
     copy(memory, at + NUMBER_BYTES, payload);
 }

@@ -1,5 +1,6 @@
 -- Laws of rules: rules in a row, choices and loops as the code takes them, and that a rule goes on by as many tokens as it reads.
-use Rattle.common.specs.Words.{ℕ, zero, suc, _+_, _<_, _≤_, arith, Bool, true, false, true≢false, cond, List, [], _∷_, _≡_, refl, sym, ap, _∙_}
+use Rattle.common.specs.Words.{ℕ, zero, suc, _+_, _<_, _≤_, arith, Bool, true, false, true≢false, cond, List}
+use Rattle.common.specs.Words.{[], _∷_, _≡_, refl, sym, ap, _∙_}
 use Rattle.common.specs.Words.{eqb, leb, eqb-true, leb-true, eq-eqb, ne-eqb, length, drop, drop-drop, length-drop}
 use Rattle.words.specs.Words.{isName, firstName}
 use Rattle.words.specs.Letters.{same}
@@ -143,7 +144,8 @@ weighs kind n = rw (ne-eqb kind ENDED n) (go (eqb kind THREAD) (eqb kind PORT) (
 pub moves-any : Moves 0 any
 unfolding any
 moves-any [] = went (goes-none [])
-moves-any (k ∷ ts) = went (either (λ (r : List Token). Goes 0 (k ∷ ts) r) (eqb (k .kind) ENDED) (goes-none (k ∷ ts)) (goes-one 0 k ts (omega arith)))
+moves-any (k ∷ ts) = went (either (λ (r : List Token). Goes 0 (k ∷ ts) r)
+    (eqb (k .kind) ENDED) (goes-none (k ∷ ts)) (goes-one 0 k ts (omega arith)))
 
 -- where it is not the text's end
 pub moved-any : (ts : List Token) → (next ts ≡ ENDED → ⊥) → Moved 1 ts (any ts)
@@ -206,7 +208,8 @@ pub advances : {n : ℕ} (b : List Token → Bool) {r : List Token → Step} →
 advances b h ts e = moved-less 1 (omega arith) (h ts)
 
 -- rules that agree on what is left
-then-same : {ts : List Token} {s : Step} {f g : List Token → Step} → Moved 1 ts s → ((rest : List Token) → length rest < length ts → f rest ≡ g rest) → s ⟫ f ≡ s ⟫ g
+then-same : {ts : List Token} {s : Step} {f g : List Token → Step} → Moved 1 ts s →
+    ((rest : List Token) → length rest < length ts → f rest ≡ g rest) → s ⟫ f ≡ s ⟫ g
 then-same (went x) h = h _ (goes-shorter x)
 then-same stopped h = refl
 
@@ -237,7 +240,8 @@ module _ (b : List Token → Bool) (r : List Token → Step) where
   unfolding many manyBy
   many-step h ts = go (b ts) refl
     where
-      go : (t : Bool) → b ts ≡ t → cond t (r ts ⟫ manyBy (length ts) b r) (On ts) ≡ cond t (r ts ⟫ (λ us. manyBy (suc (length us)) b r us)) (On ts)
+      go : (t : Bool) → b ts ≡ t → cond t (r ts ⟫ manyBy (length ts) b r) (On ts)
+          ≡ cond t (r ts ⟫ (λ us. manyBy (suc (length us)) b r us)) (On ts)
       go true e = then-same (h ts e) (λ rest l. many-enough h (length ts) (suc (length rest)) rest (omega arith) (omega arith))
       go false e = refl
 

@@ -52,4 +52,5 @@ end-differs p at by s e h g n k =
     let r : s .kind ≡ ENDED → ⊥ = λ x. omega arith in
     let x = part-length p (s .start) (s .end) (h .forward) (h .within r) in
     let z : e .end - e .start ≡ 0 = omega (arith, g .empty k) in
-    same-length (tokenOf p s .letters) (tokenOf p e .letters) (λ l. omega (arith, h .wide r, x, l, ap (λ (m : ℕ). length (part p (e .start) m)) z))
+    same-length (tokenOf p s .letters) (tokenOf p e .letters) (λ l.
+    omega (arith, h .wide r, x, l, ap (λ (m : ℕ). length (part p (e .start) m)) z))

@@ -6,7 +6,8 @@ use Rattle.words.specs.Letters.{wordsBy, same, same-eq}
 use Rattle.words.specs.Words.{listed, rank, firstWord, NAME, kindOf}
 use Rattle.words.specs.Kinds.{ENDED, THREAD, PORT, NUMBER, BECOMES, ADDS, ARROW, DELAYING, BOTH-WAYS, SCOPE, DOTS}
 use Rattle.tokens.specs.declared.Shape.{Shape}
-use Rattle.tokens.specs.Tokens.{Token, sortOf, run, blank, letter, digit, shape, wordShape, numberWidth, oneOf, signShape, shapeOf, none, tokensBy, from}
+use Rattle.tokens.specs.Tokens.{Token, sortOf, run, blank, letter, digit, shape, wordShape, numberWidth, oneOf, signShape}
+use Rattle.tokens.specs.Tokens.{shapeOf, none, tokensBy, from}
 use Rattle.tokens.specs.Laws.{either, cases, run-le, shape-width, shape-fits, some-length}
 use Rattle.steps.specs.Laws.{weightOf, weight}
 
@@ -21,7 +22,8 @@ all-spelled : spelled listed firstWord ≡ true
 unfolding spelled listed wordsBy
 all-spelled = refl
 
-rank-weighs : (vs : List (List ℕ)) (k other : ℕ) (w : List ℕ) → spelled vs k ≡ true → weightOf other ≤ length w → weightOf (rank vs k other w) ≤ length w
+rank-weighs : (vs : List (List ℕ)) (k other : ℕ) (w : List ℕ) → spelled vs k ≡ true →
+    weightOf other ≤ length w → weightOf (rank vs k other w) ≤ length w
 unfolding spelled rank
 rank-weighs [] k other w h g = g
 rank-weighs (v ∷ vs) k other w h g =
@@ -68,7 +70,8 @@ shape-weighs bs h =
     let n = run letter digit bs in
     let l : length (take n bs) ≡ n = length-take-le n bs (run-le letter digit bs) in
     either P (eqb (sortOf (getD bs 0 0)) letter) {x = wordShape bs} (λ x. omega (arith, l, word-weighs (take n bs) (omega (arith, l))))
-    (either P (eqb (sortOf (getD bs 0 0)) digit) {x = shape NUMBER (numberWidth bs)} (λ x. x) (λ _. sign-weighs (getD bs 0 0) (getD bs 1 0) (getD bs 2 0)))
+    (either P (eqb (sortOf (getD bs 0 0)) digit) {x = shape NUMBER (numberWidth bs)}
+    (λ x. x) (λ _. sign-weighs (getD bs 0 0) (getD bs 1 0) (getD bs 2 0)))
     (shape-width bs h)
 
 tokens-weigh : (n i : ℕ) (bs : List ℕ) → weight (tokensBy n i bs) ≤ length bs

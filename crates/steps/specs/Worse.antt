@@ -1,5 +1,6 @@
 -- Laws of the least fault: it is one of those that it is taken from, none of them lies before it, and it does not matter how they are grouped.
-use Rattle.common.specs.Words.{ℕ, _<_, _≤_, arith, Bool, true, false, true≢false, pos-of-ne-zero, cond, List, [], _∷_, _++_, _⊎_, inl, inr, ⊎-elim, _≡_, refl, sym, ap, _∙_}
+use Rattle.common.specs.Words.{ℕ, _<_, _≤_, arith, Bool, true, false, true≢false, pos-of-ne-zero, cond, List, [], _∷_}
+use Rattle.common.specs.Words.{_++_, _⊎_, inl, inr, ⊎-elim, _≡_, refl, sym, ap, _∙_}
 use Rattle.common.specs.Words.{eqb, ltb, lt-ltb, le-ltb, eq-eqb, ne-eqb, eqb-true, eqb-false, ltb-true, ltb-false}
 use Rattle.common.specs.Tests.{lt-or-le, true-or-false, clash}
 use Rattle.steps.specs.declared.Fault.{Fault}
@@ -34,21 +35,25 @@ pub before-is : (b a : Fault) → before b a ≡ true → Before b a
 unfolding before
 before-is b a h = one (eqb (b .number) 0) refl h
   where
-    four : (t : Bool) → ltb (a .place) (b .place) ≡ t → 0 < b .number → a .place ≤ b .place → cond t false (ltb (b .number) (a .number)) ≡ true → Before b a
+    four : (t : Bool) → ltb (a .place) (b .place) ≡ t → 0 < b .number → a .place ≤ b .place →
+        cond t false (ltb (b .number) (a .number)) ≡ true → Before b a
     four true e n l h = absurd (true≢false (sym h))
     four false e n l h = (n, inr (inr (omega (arith, ltb-false (a .place) (b .place) e), ltb-true (b .number) (a .number) h)))
 
-    three : (t : Bool) → ltb (b .place) (a .place) ≡ t → 0 < b .number → cond t true (cond (ltb (a .place) (b .place)) false (ltb (b .number) (a .number))) ≡ true → Before b a
+    three : (t : Bool) → ltb (b .place) (a .place) ≡ t → 0 < b .number →
+        cond t true (cond (ltb (a .place) (b .place)) false (ltb (b .number) (a .number))) ≡ true → Before b a
     three true e n h = (n, inr (inl (ltb-true (b .place) (a .place) e)))
     three false e n h = four (ltb (a .place) (b .place)) refl n (ltb-false (b .place) (a .place) e) h
 
     two : (t : Bool) → eqb (a .number) 0 ≡ t → 0 < b .number →
-        cond t true (cond (ltb (b .place) (a .place)) true (cond (ltb (a .place) (b .place)) false (ltb (b .number) (a .number)))) ≡ true → Before b a
+        cond t true (cond (ltb (b .place) (a .place)) true (cond (ltb (a .place) (b .place)) false
+        (ltb (b .number) (a .number)))) ≡ true → Before b a
     two true e n h = (n, inl (eqb-true (a .number) 0 e))
     two false e n h = three (ltb (b .place) (a .place)) refl n h
 
     one : (t : Bool) → eqb (b .number) 0 ≡ t →
-        cond t false (cond (eqb (a .number) 0) true (cond (ltb (b .place) (a .place)) true (cond (ltb (a .place) (b .place)) false (ltb (b .number) (a .number))))) ≡ true → Before b a
+        cond t false (cond (eqb (a .number) 0) true (cond (ltb (b .place) (a .place)) true
+        (cond (ltb (a .place) (b .place)) false (ltb (b .number) (a .number))))) ≡ true → Before b a
     one true e h = absurd (true≢false (sym h))
     one false e h = two (eqb (a .number) 0) refl (pos-of-ne-zero (eqb-false (b .number) 0 e)) h
 
@@ -56,11 +61,13 @@ pub before-of : (b a : Fault) → Before b a → before b a ≡ true
 unfolding before
 before-of b a (n, h) = rw (ne-eqb (b .number) 0 (λ (e : b .number ≡ 0). omega arith)) (two (lt-or-le 0 (a .number)))
   where
-    two : (0 < a .number) ⊎ (a .number ≤ 0) → cond (eqb (a .number) 0) true (cond (ltb (b .place) (a .place)) true (cond (ltb (a .place) (b .place)) false (ltb (b .number) (a .number)))) ≡ true
+    two : (0 < a .number) ⊎ (a .number ≤ 0) → cond (eqb (a .number) 0) true
+        (cond (ltb (b .place) (a .place)) true (cond (ltb (a .place) (b .place)) false (ltb (b .number) (a .number)))) ≡ true
     two (inr z) = rw (eq-eqb (a .number) 0 (omega arith))
     two (inl p) = rw (ne-eqb (a .number) 0 (λ (e : a .number ≡ 0). omega arith)) (⊎-elim (λ (z : a .number ≡ 0). absurd (omega arith))
         (⊎-elim (λ (l : b .place < a .place). rw (lt-ltb (b .place) (a .place) l))
-        (λ (e : (b .place ≡ a .place) × (b .number < a .number)). rw (e .0, le-ltb (a .place) (a .place) (omega arith), lt-ltb (b .number) (a .number) (e .1)))) h)
+        (λ (e : (b .place ≡ a .place) × (b .number < a .number)).
+        rw (e .0, le-ltb (a .place) (a .place) (omega arith), lt-ltb (b .number) (a .number) (e .1)))) h)
 
 pub before-trans : (c b a : Fault) → Before c b → Before b a → Before c a
 before-trans c b a (n, h) (m, g) = (n, go h g)
@@ -79,7 +86,8 @@ before-trans c b a (n, h) (m, g) = (n, go h g)
 pub before-between : (c b a : Fault) → Before c a → Before c b ⊎ Before b a
 before-between c b a (n, h) = one (lt-or-le 0 (b .number))
   where
-    three : 0 < b .number → b .place ≤ c .place → (c .place < a .place) ⊎ ((c .place ≡ a .place) × (c .number < a .number)) → Before c b ⊎ Before b a
+    three : 0 < b .number → b .place ≤ c .place → (c .place < a .place) ⊎ ((c .place ≡ a .place) × (c .number < a .number)) →
+        Before c b ⊎ Before b a
     three m l (inl k) = inr (m, inr (inl (omega arith)))
     three m l (inr e) =
         ⊎-elim (λ (x : b .place < a .place). inr (m, inr (inl x)))
@@ -88,7 +96,8 @@ before-between c b a (n, h) = one (lt-or-le 0 (b .number))
         (λ (y : b .number ≤ c .number). inr (m, inr (inr (omega (arith, e .0), omega (arith, e .1))))) (lt-or-le (c .number) (b .number)))
         (lt-or-le (b .place) (a .place))
 
-    two : 0 < b .number → (a .number ≡ 0) ⊎ ((c .place < a .place) ⊎ ((c .place ≡ a .place) × (c .number < a .number))) → Before c b ⊎ Before b a
+    two : 0 < b .number → (a .number ≡ 0) ⊎ ((c .place < a .place) ⊎ ((c .place ≡ a .place) × (c .number < a .number))) →
+        Before c b ⊎ Before b a
     two m (inl z) = inr (m, inl z)
     two m (inr g) =
         ⊎-elim (λ (x : c .place < b .place). inl (n, inr (inl x))) (λ (x : b .place ≤ c .place). three m x g) (lt-or-le (c .place) (b .place))
@@ -108,7 +117,8 @@ worse-assoc a b c = rw (worse-by a b, worse-by b c) (go (before b a) (before c b
     go false false e f =
         rw (worse-by a c, worse-by a b, e)
         (⊎-elim (λ (t : before c a ≡ true).
-        absurd (⊎-elim (λ (p : Before c b). clash (before-of c b p) f) (λ (p : Before b a). clash (before-of b a p) e) (before-between c b a (before-is c a t))))
+        absurd (⊎-elim (λ (p : Before c b). clash (before-of c b p) f)
+        (λ (p : Before b a). clash (before-of b a p) e) (before-between c b a (before-is c a t))))
         (λ (t : before c a ≡ false). rw t) (true-or-false (before c a)))
 
 pub worse-none : (a : Fault) → worse a noFault ≡ a

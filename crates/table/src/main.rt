@@ -5,9 +5,7 @@ use frames::answers::write_refusal;
 use imports::Answer;
 use imports::Import;
 use kit::Table;
-use libc::STDERR_FILENO;
 use libc::STDIN_FILENO;
-use libc::STDOUT_FILENO;
 use plan::Plan;
 use plan::refusal::Refusal;
 use reader::MOST_BYTES;
@@ -26,27 +24,27 @@ const TEXT_ROOM: usize = MOST_BYTES + 1;
 fn print_table(plan: Plan) {
     let mut out = [0u8; LINES_ROOM];
     let n = write_table(&mut out, plan);
-    io::write_all(STDOUT_FILENO, &out[..n]);
+    blocks::write_answers(&out, n);
 }
 
 // What the reader refuses.
 fn print_unread(text: &[u8], refusal: reader::Refusal) {
     let mut out = [0u8; LINES_ROOM];
     let n = write_unread(&mut out, refusal);
-    io::write_all(STDOUT_FILENO, &out[..n]);
+    blocks::write_answers(&out, n);
     let mut words = [0u8; WORDS_ROOM];
     let m = say_unread(&mut words, text, refusal);
-    io::write_all(STDERR_FILENO, &words[..m]);
+    blocks::write_words(&words, m);
 }
 
 // What planning refuses.
 fn print_refused(table: Table, refusal: Refusal) {
     let mut out = [0u8; LINES_ROOM];
     let n = write_refusal(&mut out, refusal);
-    io::write_all(STDOUT_FILENO, &out[..n]);
+    blocks::write_answers(&out, n);
     let mut words = [0u8; WORDS_ROOM];
     let m = say_refused(&mut words, table, refusal);
-    io::write_all(STDERR_FILENO, &words[..m]);
+    blocks::write_words(&words, m);
 }
 
 fn print(text: &[u8], import: Import) {
@@ -58,7 +56,8 @@ fn print(text: &[u8], import: Import) {
         Answer::TextRefused(refusal) => print_unread(text, refusal),
         Answer::TableRefused(refusal) => print_refused(table, refusal),
         Answer::NoRoom => {
-            io::write_all(STDERR_FILENO, b"the memory is too short\n");
+            let words = b"the memory is too short\n";
+            blocks::write_words(words, words.len());
         }
     }
 }

@@ -1,8 +1,7 @@
 -- The table that planning is handed, as a plan that has no sizes yet: "queues and task rows beyond the counts are ignored and are zeros
 -- in a plan we make".
 use Rattle.common.specs.Words.{ℕ, _/_, _%_, Bool, _&&_, List, ltb, getD, replicate}
-use Rattle.common.specs.Totals.{only}
-use Rattle.common.specs.Table.{table}
+use Rattle.common.specs.Terms.{only, table}
 use Rattle.plan.specs.Limits.{taskLimit, queueLimit, cellLimit}
 use Rattle.plan.specs.Square.{entry}
 use Rattle.plan.specs.declared.Plan.{Plan}

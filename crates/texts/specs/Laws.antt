@@ -17,7 +17,8 @@ use Rattle.declarations.specs.Declarations.{threadType, threadImplementation, p
 use Rattle.declarations.specs.Laws.{thread-type-moves, thread-implementation-moves, process-moves}
 use Rattle.others.specs.Others.{otherKind, pathEnd, other}
 use Rattle.others.specs.Laws.{path-end-moves, other-moves}
-use Rattle.texts.specs.Texts.{declarationKind, threadBy, chosen, declaration, noneOrSome, clauseKind, clause, partKind, part, beginsPart, parts}
+use Rattle.texts.specs.Texts.{declarationKind, threadBy, chosen, declaration, noneOrSome, clauseKind, clause, partKind}
+use Rattle.texts.specs.Texts.{part, beginsPart, parts}
 use Rattle.texts.specs.Texts.{packageHead, packaged, pieceKind, piece, beginsPiece, pieces, aDeclaration, finished, wholeText}
 
 -- ## Which part or piece begins
@@ -56,13 +57,16 @@ module _ (s : State) where
   pub thread-by-group : (secondKind (s .went) ≡ IMPLEMENTATION → ⊥) → secondKind (s .went) ≡ GROUP → does s other ≡ does s threadBy
   unfolding does threadBy
   thread-by-group =
-      by-went (λ (s : State). (secondKind (s .went) ≡ IMPLEMENTATION → ⊥) → secondKind (s .went) ≡ GROUP → does s other ≡ does s threadBy)
+      by-went (λ (s : State). (secondKind (s .went) ≡ IMPLEMENTATION → ⊥) →
+      secondKind (s .went) ≡ GROUP → does s other ≡ does s threadBy)
       (λ ts qs x t n e. rw (ne-eqb (second ts) IMPLEMENTATION n, eq-eqb (second ts) GROUP e)) (λ f qs x t n e. refl) s
 
-  pub thread-by-type : (secondKind (s .went) ≡ IMPLEMENTATION → ⊥) → (secondKind (s .went) ≡ GROUP → ⊥) → does s threadType ≡ does s threadBy
+  pub thread-by-type : (secondKind (s .went) ≡ IMPLEMENTATION → ⊥) →
+      (secondKind (s .went) ≡ GROUP → ⊥) → does s threadType ≡ does s threadBy
   unfolding does threadBy
   thread-by-type =
-      by-went (λ (s : State). (secondKind (s .went) ≡ IMPLEMENTATION → ⊥) → (secondKind (s .went) ≡ GROUP → ⊥) → does s threadType ≡ does s threadBy)
+      by-went (λ (s : State). (secondKind (s .went) ≡ IMPLEMENTATION → ⊥) →
+      (secondKind (s .went) ≡ GROUP → ⊥) → does s threadType ≡ does s threadBy)
       (λ ts qs x t n m. rw (ne-eqb (second ts) IMPLEMENTATION n, ne-eqb (second ts) GROUP m)) (λ f qs x t n m. refl) s
 
   pub chosen-thread : firstKind (s .went) ≡ THREAD → does s threadBy ≡ does s chosen
@@ -110,7 +114,8 @@ unfolding clause
 clause-with (On ts) e = rw (eq-eqb (next ts) WITH e)
 clause-with (Stop f) e = refl
 
-pub clause-properties : (s : Step) → (firstKind s ≡ WITH → ⊥) → firstKind s ≡ PROPERTIES → s ⟫ the PROPERTIES ⟫ noneOrSome ≡ s ⟫ clause
+pub clause-properties : (s : Step) → (firstKind s ≡ WITH → ⊥) →
+    firstKind s ≡ PROPERTIES → s ⟫ the PROPERTIES ⟫ noneOrSome ≡ s ⟫ clause
 unfolding clause
 clause-properties (On ts) n e = rw (ne-eqb (next ts) WITH n, eq-eqb (next ts) PROPERTIES e)
 clause-properties (Stop f) n e = refl
@@ -128,17 +133,20 @@ module _ (s : State) where
   pub part-clause : clauseKind (firstKind (s .went)) ≡ true → does s (quiet clause) ≡ does s part
   unfolding does part
   part-clause =
-      by-went (λ (s : State). clauseKind (firstKind (s .went)) ≡ true → does s (quiet clause) ≡ does s part) (λ ts qs x t h. rw h) (λ f qs x t h. refl) s
+      by-went (λ (s : State). clauseKind (firstKind (s .went)) ≡ true → does s (quiet clause) ≡ does s part)
+      (λ ts qs x t h. rw h) (λ f qs x t h. refl) s
 
   pub part-declaration : clauseKind (firstKind (s .went)) ≡ false → does s declaration ≡ does s part
   unfolding does part
   part-declaration =
-      by-went (λ (s : State). clauseKind (firstKind (s .went)) ≡ false → does s declaration ≡ does s part) (λ ts qs x t h. rw h) (λ f qs x t h. refl) s
+      by-went (λ (s : State). clauseKind (firstKind (s .went)) ≡ false → does s declaration ≡ does s part)
+      (λ ts qs x t h. rw h) (λ f qs x t h. refl) s
 
   pub package-does : does (does (does s (quiet packageHead)) parts) (quiet pathEnd) ≡ does s packaged
   unfolding packaged
   package-does =
-      ap (λ (t : State). does t (quiet pathEnd)) (does-then s (quiet packageHead) parts) ∙ does-then s (λ ps ts. quiet packageHead ps ts ⨟ parts) (quiet pathEnd)
+      ap (λ (t : State). does t (quiet pathEnd)) (does-then s (quiet packageHead) parts)
+      ∙ does-then s (λ ps ts. quiet packageHead ps ts ⨟ parts) (quiet pathEnd)
 
 -- ## In a text
 
@@ -146,12 +154,14 @@ module _ (s : State) where
   pub piece-package : firstKind (s .went) ≡ PACKAGE → does s packaged ≡ does s piece
   unfolding does piece
   piece-package =
-      by-went (λ (s : State). firstKind (s .went) ≡ PACKAGE → does s packaged ≡ does s piece) (λ ts qs x t e. rw (eq-eqb (next ts) PACKAGE e)) (λ f qs x t e. refl) s
+      by-went (λ (s : State). firstKind (s .went) ≡ PACKAGE → does s packaged ≡ does s piece)
+      (λ ts qs x t e. rw (eq-eqb (next ts) PACKAGE e)) (λ f qs x t e. refl) s
 
   pub piece-declaration : (firstKind (s .went) ≡ PACKAGE → ⊥) → does s declaration ≡ does s piece
   unfolding does piece
   piece-declaration =
-      by-went (λ (s : State). (firstKind (s .went) ≡ PACKAGE → ⊥) → does s declaration ≡ does s piece) (λ ts qs x t n. rw (ne-eqb (next ts) PACKAGE n)) (λ f qs x t n. refl) s
+      by-went (λ (s : State). (firstKind (s .went) ≡ PACKAGE → ⊥) → does s declaration ≡ does s piece)
+      (λ ts qs x t n. rw (ne-eqb (next ts) PACKAGE n)) (λ f qs x t n. refl) s
 
   pub text-does : does (does s pieces) (quiet finished) ≡ does s wholeText
   unfolding wholeText
@@ -172,15 +182,18 @@ finished-off (Stop f) n = refl
 thread-by-moves : MovesOn 3 threadBy
 unfolding threadBy
 thread-by-moves ps ts =
-    cases (λ (s : Said). Moved 3 ts (s .went)) (eqb (second ts) IMPLEMENTATION) (λ _. moved-less 3 (omega arith) (thread-implementation-moves ps ts))
-    (λ _. cases (λ (s : Said). Moved 3 ts (s .went)) (eqb (second ts) GROUP) (λ _. other-moves ps ts) (λ _. moved-less 3 (omega arith) (thread-type-moves ps ts)))
+    cases (λ (s : Said). Moved 3 ts (s .went)) (eqb (second ts) IMPLEMENTATION)
+    (λ _. moved-less 3 (omega arith) (thread-implementation-moves ps ts))
+    (λ _. cases (λ (s : Said). Moved 3 ts (s .went)) (eqb (second ts) GROUP) (λ _. other-moves ps ts)
+    (λ _. moved-less 3 (omega arith) (thread-type-moves ps ts)))
 
 chosen-moves : MovesOn 3 chosen
 unfolding chosen
 chosen-moves ps ts =
     cases (λ (s : Said). Moved 3 ts (s .went)) (is THREAD ts) (λ _. thread-by-moves ps ts)
     (λ _. cases (λ (s : Said). Moved 3 ts (s .went)) (is ANNEX ts) (λ _. moved-less 3 (omega arith) (annex-moves ts))
-    (λ _. cases (λ (s : Said). Moved 3 ts (s .went)) (is PROCESS ts && eqb (second ts) IMPLEMENTATION) (λ _. moved-less 3 (omega arith) (process-moves ps ts))
+    (λ _. cases (λ (s : Said). Moved 3 ts (s .went)) (is PROCESS ts && eqb (second ts) IMPLEMENTATION)
+    (λ _. moved-less 3 (omega arith) (process-moves ps ts))
     (λ _. other-moves ps ts)))
 
 pub declaration-moves : MovesOn 3 declaration
@@ -202,7 +215,8 @@ pub part-advances : AdvancesOn beginsPart part
 unfolding part
 part-advances ps ts h =
     let real : next ts ≡ ENDED → ⊥ = λ e. true≢false (sym h ∙ ap partKind e ∙ part-ended) in
-    cases (λ (s : Said). Moved 1 ts (s .went)) (clauseKind (next ts)) (λ _. clause-moves ts real) (λ _. moved-less 1 (omega arith) (declaration-moves ps ts))
+    cases (λ (s : Said). Moved 1 ts (s .went)) (clauseKind (next ts)) (λ _. clause-moves ts real)
+    (λ _. moved-less 1 (omega arith) (declaration-moves ps ts))
 
 pub parts-moves : MovesOn 0 parts
 unfolding parts
@@ -217,7 +231,8 @@ packaged-moves ps ts =
 pub piece-moves : MovesOn 3 piece
 unfolding piece
 piece-moves ps ts =
-    cases (λ (s : Said). Moved 3 ts (s .went)) (is PACKAGE ts) (λ _. moved-less 3 (omega arith) (packaged-moves ps ts)) (λ _. declaration-moves ps ts)
+    cases (λ (s : Said). Moved 3 ts (s .went)) (is PACKAGE ts) (λ _. moved-less 3 (omega arith) (packaged-moves ps ts))
+    (λ _. declaration-moves ps ts)
 
 pub piece-advances : AdvancesOn beginsPiece piece
 piece-advances = advances-on beginsPiece piece piece-moves

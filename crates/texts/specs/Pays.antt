@@ -31,7 +31,8 @@ unfolding chosen
 chosen-pays ps ts =
     cases (PaidBy 0 0 ts) (is THREAD ts) (λ _. thread-by-pays ps ts)
     (λ _. cases (PaidBy 0 0 ts) (is ANNEX ts) (λ _. paid-less 0 0 (omega arith) (omega arith) (paid-moved (annex-moves ts)))
-    (λ _. cases (PaidBy 0 0 ts) (is PROCESS ts && eqb (second ts) IMPLEMENTATION) (λ _. paid-less 0 0 (omega arith) (omega arith) (process-pays ps ts))
+    (λ _. cases (PaidBy 0 0 ts) (is PROCESS ts && eqb (second ts) IMPLEMENTATION)
+    (λ _. paid-less 0 0 (omega arith) (omega arith) (process-pays ps ts))
     (λ _. paid-less 0 0 (omega arith) (omega arith) (other-pays ps ts))))
 
 pub declaration-pays : Pays 0 0 declaration
@@ -48,7 +49,8 @@ clause-stays : Moves 0 clause
 unfolding clause
 clause-stays ts =
     moved-either (is WITH ts) (moved-less 0 (omega arith) (moved-then (moves-the WITH (λ e. omega arith) ts) paths-moves))
-    (moved-either (is PROPERTIES ts) (moved-less 0 (omega arith) (moved-then (moves-the PROPERTIES (λ e. omega arith) ts) none-or-some-stays)) (moves-any ts))
+    (moved-either (is PROPERTIES ts) (moved-less 0 (omega arith)
+    (moved-then (moves-the PROPERTIES (λ e. omega arith) ts) none-or-some-stays)) (moves-any ts))
 
 part-pays : Pays 0 0 part
 unfolding part

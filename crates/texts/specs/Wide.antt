@@ -15,7 +15,8 @@ other-wide : WideOn other
 unfolding other
 other-wide ps ts =
     wide-onward _ (quiet pathEnd)
-    (wide-onward _ (passing (outsideKind (next ts)) []) (wide-quiet any ps ts) (λ qs us. wide-silent _ (passing-silent (outsideKind (next ts)) [] qs us)))
+    (wide-onward _ (passing (outsideKind (next ts)) []) (wide-quiet any ps ts)
+    (λ qs us. wide-silent _ (passing-silent (outsideKind (next ts)) [] qs us)))
     (wide-quiet pathEnd)
 
 thread-by-wide : WideOn threadBy

@@ -39,7 +39,8 @@ ghost use Rattle.words.specs.Kinds.{PROCESS, IMPLEMENTATION};
 ghost use Rattle.steps.specs.Steps.{_⟫_};
 ghost use Rattle.steps.specs.Lifted.{lift};
 ghost use Rattle.rows.specs.States.{stateOf, does, begun};
-ghost use Rattle.texts.specs.Texts.{declarationKind, threadBy, chosen, declaration, noneOrSome, clauseKind, clause, partKind, part, parts, packaged, pieceKind, piece, pieces, finished, wholeText};
+ghost use Rattle.texts.specs.Texts.{declarationKind, threadBy, chosen, declaration, noneOrSome, clauseKind, clause};
+ghost use Rattle.texts.specs.Texts.{partKind, part, parts, packaged, pieceKind, piece, pieces, finished, wholeText};
 
 // What was expected: a package, a declaration or the text's end.
 pub const A_DECLARATION: usize = 0x303;
@@ -58,7 +59,8 @@ fn begins_declaration(kind: usize) -> bool
 
 // A declaration that begins with "thread".
 fn thread_by(text: &[u8], rows: &mut [usize], reading: Reading) -> Reading
-    ensures { λ r. ⌜ stateOf (now (text .entry)) r (now (rows .exit)) ≡ does (stateOf (now (text .entry)) reading (now (rows .entry))) threadBy ⌝ }
+    ensures { λ r. ⌜ stateOf (now (text .entry)) r (now (rows .exit))
+        ≡ does (stateOf (now (text .entry)) reading (now (rows .entry))) threadBy ⌝ }
 {
     let second = second_of(text, reading);
     if second == IMPLEMENTATION {
@@ -80,7 +82,8 @@ fn is_process(kind: usize, second: usize) -> bool
 }
 
 fn chosen(text: &[u8], rows: &mut [usize], reading: Reading) -> Reading
-    ensures { λ r. ⌜ stateOf (now (text .entry)) r (now (rows .exit)) ≡ does (stateOf (now (text .entry)) reading (now (rows .entry))) chosen ⌝ }
+    ensures { λ r. ⌜ stateOf (now (text .entry)) r (now (rows .exit))
+        ≡ does (stateOf (now (text .entry)) reading (now (rows .entry))) chosen ⌝ }
 {
     let kind = next_of(text, reading);
     let went = reading.went;
@@ -98,7 +101,8 @@ fn chosen(text: &[u8], rows: &mut [usize], reading: Reading) -> Reading
 
 // A declaration has properties of its own.
 fn declaration(text: &[u8], rows: &mut [usize], reading: Reading) -> Reading
-    ensures { λ r. ⌜ stateOf (now (text .entry)) r (now (rows .exit)) ≡ does (stateOf (now (text .entry)) reading (now (rows .entry))) declaration ⌝ }
+    ensures { λ r. ⌜ stateOf (now (text .entry)) r (now (rows .exit))
+        ≡ does (stateOf (now (text .entry)) reading (now (rows .entry))) declaration ⌝ }
 {
     let props = reading.props;
     let fresh = with_props(reading, NO_PROPERTIES);
@@ -164,7 +168,8 @@ fn part(text: &[u8], rows: &mut [usize], reading: Reading) -> Reading
 }
 
 fn parts(text: &[u8], rows: &mut [usize], reading: Reading) -> Reading
-    ensures { λ r. ⌜ stateOf (now (text .entry)) r (now (rows .exit)) ≡ does (stateOf (now (text .entry)) reading (now (rows .entry))) parts ⌝ }
+    ensures { λ r. ⌜ stateOf (now (text .entry)) r (now (rows .exit))
+        ≡ does (stateOf (now (text .entry)) reading (now (rows .entry))) parts ⌝ }
 {
     let mut r = reading;
     while begins_part(next_of(text, r)) {
@@ -175,7 +180,8 @@ fn parts(text: &[u8], rows: &mut [usize], reading: Reading) -> Reading
 
 // "package" path { .. } "end" path ";"
 fn packaged(text: &[u8], rows: &mut [usize], reading: Reading) -> Reading
-    ensures { λ r. ⌜ stateOf (now (text .entry)) r (now (rows .exit)) ≡ does (stateOf (now (text .entry)) reading (now (rows .entry))) packaged ⌝ }
+    ensures { λ r. ⌜ stateOf (now (text .entry)) r (now (rows .exit))
+        ≡ does (stateOf (now (text .entry)) reading (now (rows .entry))) packaged ⌝ }
 {
     let went = reading.went;
     let head = on(reading, path(text, symbol(text, went, PACKAGE)));
@@ -194,7 +200,8 @@ fn begins_piece(kind: usize) -> bool
 }
 
 fn piece(text: &[u8], rows: &mut [usize], reading: Reading) -> Reading
-    ensures { λ r. ⌜ stateOf (now (text .entry)) r (now (rows .exit)) ≡ does (stateOf (now (text .entry)) reading (now (rows .entry))) piece ⌝ }
+    ensures { λ r. ⌜ stateOf (now (text .entry)) r (now (rows .exit))
+        ≡ does (stateOf (now (text .entry)) reading (now (rows .entry))) piece ⌝ }
 {
     if next_of(text, reading) == PACKAGE {
         return packaged(text, rows, reading);
@@ -203,7 +210,8 @@ fn piece(text: &[u8], rows: &mut [usize], reading: Reading) -> Reading
 }
 
 fn pieces(text: &[u8], rows: &mut [usize], reading: Reading) -> Reading
-    ensures { λ r. ⌜ stateOf (now (text .entry)) r (now (rows .exit)) ≡ does (stateOf (now (text .entry)) reading (now (rows .entry))) pieces ⌝ }
+    ensures { λ r. ⌜ stateOf (now (text .entry)) r (now (rows .exit))
+        ≡ does (stateOf (now (text .entry)) reading (now (rows .entry))) pieces ⌝ }
 {
     let mut r = reading;
     while begins_piece(next_of(text, r)) {
@@ -224,7 +232,8 @@ fn end(text: &[u8], went: Went) -> Went
 
 // A whole plain text, from its first byte on.
 pub fn read(text: &[u8], rows: &mut [usize]) -> Reading
-    ensures { λ r. ⌜ stateOf (now (text .entry)) r (now (rows .exit)) ≡ does (stateOf (now (text .entry)) begun (now (rows .entry))) wholeText ⌝ }
+    ensures { λ r. ⌜ stateOf (now (text .entry)) r (now (rows .exit))
+        ≡ does (stateOf (now (text .entry)) begun (now (rows .entry))) wholeText ⌝ }
 {
     let whole = pieces(text, rows, begun());
     let last = whole.went;

@@ -11,7 +11,8 @@ use Rattle.phrases.specs.Laws.{classifier-moves, label-moves, word-moves}
 use Rattle.rows.specs.Rows.{Row, threadRow}
 use Rattle.rows.specs.Said.{Said, Rule, quiet, _⨟_, repeat, put, apart}
 use Rattle.rows.specs.States.{State, does}
-use Rattle.rows.specs.Laws.{MovesOn, moved-onward, moves-quiet, moves-put, moves-apart, moves-repeat, advances-on, does-then, does-then-at, does-on, does-off}
+use Rattle.rows.specs.Laws.{MovesOn, moved-onward, moves-quiet, moves-put, moves-apart, moves-repeat, advances-on, does-then}
+use Rattle.rows.specs.Laws.{does-then-at, does-on, does-off}
 use Rattle.properties.specs.Properties.{ofThread, maybeBlockIn}
 use Rattle.properties.specs.Laws.{maybe-block-moves}
 use Rattle.threads.specs.Threads.{typeIn, implementationIn, threadOf, thread, otherComponent, subcomponentOf, subcomponent, subcomponents}
@@ -20,11 +21,14 @@ use Rattle.threads.specs.Threads.{typeIn, implementationIn, threadOf, th
 
 module _ (p n : ℕ) (s : State) where
   pub thread-of-does : (t i : ℕ) → t ≡ first (s .went ⟫ scopes) .start → i ≡ first (s .went ⟫ scopes ⟫ name ⟫ the DOT) .start →
-      does (does (does (does s (quiet classifier)) (maybeBlockIn ofThread)) (quiet (the SEMICOLON))) (put (λ qs. threadRow p n t i qs)) ≡ does s (threadOf p n)
+      does (does (does (does s (quiet classifier)) (maybeBlockIn ofThread)) (quiet (the SEMICOLON))) (put (λ qs. threadRow p n t i qs))
+      ≡ does s (threadOf p n)
   unfolding threadOf typeIn implementationIn
   thread-of-does t i e f =
-      ap (λ (r : State). does (does r (quiet (the SEMICOLON))) (put (λ qs. threadRow p n t i qs))) (does-then s (quiet classifier) (maybeBlockIn ofThread))
-      ∙ ap (λ (r : State). does r (put (λ qs. threadRow p n t i qs))) (does-then s (λ ps ts. quiet classifier ps ts ⨟ maybeBlockIn ofThread) (quiet (the SEMICOLON)))
+      ap (λ (r : State). does (does r (quiet (the SEMICOLON))) (put (λ qs. threadRow p n t i qs)))
+      (does-then s (quiet classifier) (maybeBlockIn ofThread))
+      ∙ ap (λ (r : State). does r (put (λ qs. threadRow p n t i qs)))
+      (does-then s (λ ps ts. quiet classifier ps ts ⨟ maybeBlockIn ofThread) (quiet (the SEMICOLON)))
       ∙ does-then-at s (λ ps ts. quiet classifier ps ts ⨟ maybeBlockIn ofThread ⨟ quiet (the SEMICOLON)) (put (λ qs. threadRow p n t i qs))
       (λ ts. put (λ qs. threadRow p n (typeIn ts) (implementationIn ts) qs))
       (λ ts w. rw (e, f, w))
@@ -44,7 +48,8 @@ module _ (p n : ℕ) (s : State) where
 pub subcomponent-does : (p : ℕ) (s : State) → does (does s (quiet label)) (subcomponentOf p (first (s .went) .start)) ≡ does s (subcomponent p)
 unfolding subcomponent
 subcomponent-does p s =
-    does-then-at s (quiet label) (subcomponentOf p (first (s .went) .start)) (λ ts. subcomponentOf p (head ts .start)) (λ ts w. ap (λ (x : Step). subcomponentOf p (first x .start)) w)
+    does-then-at s (quiet label) (subcomponentOf p (first (s .went) .start)) (λ ts. subcomponentOf p (head ts .start))
+    (λ ts w. ap (λ (x : Step). subcomponentOf p (first x .start)) w)
 
 -- ## How far they go
 
@@ -63,7 +68,8 @@ thread-moves p n ps ts = moved-onward _ (threadOf p n) (moves-the THREAD (λ e. 
 subcomponent-of-moves : (p n : ℕ) → MovesOn 1 (subcomponentOf p n)
 unfolding subcomponentOf
 subcomponent-of-moves p n ps ts =
-    cases (λ (s : Said). Moved 1 ts (s .went)) (otherComponent (next ts)) (λ _. word-moves ts) (λ _. moved-less 1 (omega arith) (moves-apart (thread p n) (thread-moves p n) ps ts))
+    cases (λ (s : Said). Moved 1 ts (s .went)) (otherComponent (next ts)) (λ _. word-moves ts)
+    (λ _. moved-less 1 (omega arith) (moves-apart (thread p n) (thread-moves p n) ps ts))
 
 pub subcomponent-moves : (p : ℕ) → MovesOn 3 (subcomponent p)
 unfolding subcomponent

@@ -19,7 +19,8 @@ implementationIn ts = first (scopes ts ⟫ name ⟫ the DOT) .start
 -- "thread" classifier [ block ] ";", from behind the word on
 unfoldable pub threadOf : ℕ → ℕ → Rule
 threadOf process n ps ts =
-    quiet classifier ps ts ⨟ maybeBlockIn ofThread ⨟ quiet (the SEMICOLON) ⨟ put (λ qs. threadRow process n (typeIn ts) (implementationIn ts) qs)
+    quiet classifier ps ts ⨟ maybeBlockIn ofThread ⨟ quiet (the SEMICOLON)
+    ⨟ put (λ qs. threadRow process n (typeIn ts) (implementationIn ts) qs)
 
 unfoldable pub thread : ℕ → ℕ → Rule
 thread process n ps ts = quiet (the THREAD) ps ts ⨟ threadOf process n

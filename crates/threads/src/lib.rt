@@ -38,7 +38,8 @@ fn thread_of(
     process: usize,
     named: usize,
 ) -> Reading
-    ensures { λ r. ⌜ stateOf (now (text .entry)) r (now (rows .exit)) ≡ does (stateOf (now (text .entry)) reading (now (rows .entry))) (threadOf process named) ⌝ }
+    ensures { λ r. ⌜ stateOf (now (text .entry)) r (now (rows .exit))
+        ≡ does (stateOf (now (text .entry)) reading (now (rows .entry))) (threadOf process named) ⌝ }
 {
     let went = reading.went;
     let scoped = scopes(text, went);
@@ -72,7 +73,8 @@ fn thread(
     process: usize,
     named: usize,
 ) -> Reading
-    ensures { λ r. ⌜ stateOf (now (text .entry)) r (now (rows .exit)) ≡ does (stateOf (now (text .entry)) reading (now (rows .entry))) (thread process named) ⌝ }
+    ensures { λ r. ⌜ stateOf (now (text .entry)) r (now (rows .exit))
+        ≡ does (stateOf (now (text .entry)) reading (now (rows .entry))) (thread process named) ⌝ }
 {
     thread_of(text, rows, symbol_on(text, reading, THREAD), process, named)
 }
@@ -99,7 +101,8 @@ fn subcomponent_of(
     process: usize,
     named: usize,
 ) -> Reading
-    ensures { λ r. ⌜ stateOf (now (text .entry)) r (now (rows .exit)) ≡ does (stateOf (now (text .entry)) reading (now (rows .entry))) (subcomponentOf process named) ⌝ }
+    ensures { λ r. ⌜ stateOf (now (text .entry)) r (now (rows .exit))
+        ≡ does (stateOf (now (text .entry)) reading (now (rows .entry))) (subcomponentOf process named) ⌝ }
 {
     let went = reading.went;
     let props = reading.props;
@@ -112,7 +115,8 @@ fn subcomponent_of(
 
 // NAME ":" ( "thread" .. | ( "data" | "subprogram" | "abstract" ) rest )
 fn subcomponent(text: &[u8], rows: &mut [usize], reading: Reading, process: usize) -> Reading
-    ensures { λ r. ⌜ stateOf (now (text .entry)) r (now (rows .exit)) ≡ does (stateOf (now (text .entry)) reading (now (rows .entry))) (subcomponent process) ⌝ }
+    ensures { λ r. ⌜ stateOf (now (text .entry)) r (now (rows .exit))
+        ≡ does (stateOf (now (text .entry)) reading (now (rows .entry))) (subcomponent process) ⌝ }
 {
     let went = reading.went;
     let named = start_of(text, went);
@@ -121,7 +125,8 @@ fn subcomponent(text: &[u8], rows: &mut [usize], reading: Reading, process: usiz
 
 // { subcomponent }
 pub fn subcomponents(text: &[u8], rows: &mut [usize], reading: Reading, process: usize) -> Reading
-    ensures { λ r. ⌜ stateOf (now (text .entry)) r (now (rows .exit)) ≡ does (stateOf (now (text .entry)) reading (now (rows .entry))) (subcomponents process) ⌝ }
+    ensures { λ r. ⌜ stateOf (now (text .entry)) r (now (rows .exit))
+        ≡ does (stateOf (now (text .entry)) reading (now (rows .entry))) (subcomponents process) ⌝ }
 {
     let mut r = reading;
     while is_name(next_of(text, r)) {

@@ -85,7 +85,8 @@ unfolding withByte withBytes filled timeOf time
 milliseconds = refl
 
 -- "at the unit, where it is not ms or sec (then the NUMBER is not judged)"; "Microseconds: 22 .. even where they come to whole ticks"
-microseconds : time (token NUMBER 3 (letters "1_000") ∷ token NAME 9 (letters "us") ∷ rest) ≡ formed (On rest) odd (fault 22 9 unitUnknown ∷ [])
+microseconds : time (token NUMBER 3 (letters "1_000") ∷ token NAME 9 (letters "us") ∷ rest)
+    ≡ formed (On rest) odd (fault 22 9 unitUnknown ∷ [])
 unfolding withByte withBytes filled timeOf time
 microseconds = refl
 

@@ -1,12 +1,15 @@
 -- Laws of tokens: how a run goes on, that a token has a byte at least, and that the tokens behind a token are those from its end on.
-use Rattle.common.specs.Words.{ℕ, zero, suc, _+_, _-_, _%_, _<_, _≤_, arith, add-one, Bool, true, false, true≢false, cond, _&&_, List, [], _∷_, _≡_, refl, sym, ap, _∙_}
-use Rattle.common.specs.Words.{eqb, ltb, leb, length, take, drop, getD, le-leb, lt-leb, eq-eqb, ne-eqb, eqb-true, drop-cons, drop-drop, drop-of-length-le, length-drop, getD-drop, List·getD-eq-default, ⊎-elim}
+use Rattle.common.specs.Words.{ℕ, zero, suc, _+_, _-_, _%_, _<_, _≤_, arith, add-one, Bool, true, false, true≢false, cond}
+use Rattle.common.specs.Words.{_&&_, List, [], _∷_, _≡_, refl, sym, ap, _∙_}
+use Rattle.common.specs.Words.{eqb, ltb, leb, length, take, drop, getD, le-leb, lt-leb, eq-eqb, ne-eqb, eqb-true, drop-cons}
+use Rattle.common.specs.Words.{drop-drop, drop-of-length-le, length-drop, getD-drop, List·getD-eq-default, ⊎-elim}
 use mathlib.Core.Bool.{and-false}
 use Rattle.common.specs.Tests.{lt-or-le, and-left, and-right}
 use Rattle.common.specs.Stores.{part}
 use Rattle.tokens.specs.declared.Shape.{Shape}
 use Rattle.tokens.specs.Spots.{Stands, behind}
-use Rattle.tokens.specs.Tokens.{Token, token, sortOf, run, blank, letter, digit, underscore, shape, wordShape, numberWidth, oneOf, signShape, shapeOf, none, tokensBy, from}
+use Rattle.tokens.specs.Tokens.{Token, token, sortOf, run, blank, letter, digit, underscore, shape, wordShape}
+use Rattle.tokens.specs.Tokens.{numberWidth, oneOf, signShape, shapeOf, none, tokensBy, from}
 use Rattle.words.specs.Words.{kindOf}
 use Rattle.words.specs.Found.{kind-from}
 use Rattle.words.specs.Kinds.{ENDED, NUMBER, BECOMES, ADDS, ARROW, DELAYING, BOTH-WAYS, SCOPE, DOTS}
@@ -42,7 +45,8 @@ module _ (p : List ℕ) (low high i : ℕ) where
   unfolding run
   run-above h l g = rw (drop-cons p i 0 h, le-leb low (sortOf (getD p i 0)) l, lt-leb (sortOf (getD p i 0)) high g)
 
-  pub run-more : i < length p → low ≤ sortOf (getD p i 0) → sortOf (getD p i 0) ≤ high → run low high (drop i p) ≡ suc (run low high (drop (i + 1) p))
+  pub run-more : i < length p → low ≤ sortOf (getD p i 0) → sortOf (getD p i 0) ≤ high →
+      run low high (drop i p) ≡ suc (run low high (drop (i + 1) p))
   unfolding run
   run-more h l g = rw (drop-cons p i 0 h, le-leb low (sortOf (getD p i 0)) l, le-leb (sortOf (getD p i 0)) high g, add-one i)
 
@@ -51,7 +55,8 @@ pub past-le : (p : List ℕ) (low high i : ℕ) → i ≤ length p → i + run l
 past-le p low high i h = omega (arith, simp length-drop at (run-le low high (drop i p)))
 
 -- the first byte of a run is of its sorts
-run-first : (low high : ℕ) (bs : List ℕ) → none bs ≡ false → low ≤ sortOf (getD bs 0 0) → sortOf (getD bs 0 0) ≤ high → 0 < run low high bs
+run-first : (low high : ℕ) (bs : List ℕ) → none bs ≡ false → low ≤ sortOf (getD bs 0 0) →
+    sortOf (getD bs 0 0) ≤ high → 0 < run low high bs
 unfolding run
 run-first low high [] n l h = absurd (true≢false n)
 run-first low high (b ∷ bs) n l h = rw (le-leb low (sortOf b) l, le-leb (sortOf b) high h) (omega arith)
@@ -68,7 +73,8 @@ sign-width : (a b c : ℕ) → 0 < signShape a b c .width
 unfolding signShape
 sign-width a b c =
     let P : Shape → Type 0 = λ (s : Shape). 0 < s .width in
-    let one : (t : Bool) (k w : ℕ) → 0 < w → P (oneOf t k w a) = λ (t : Bool) (k w : ℕ) (h : 0 < w). either P t {x = shape k w} {y = shape (a % 256) 1} h (omega arith) in
+    let one : (t : Bool) (k w : ℕ) → 0 < w → P (oneOf t k w a) =
+    λ (t : Bool) (k w : ℕ) (h : 0 < w). either P t {x = shape k w} {y = shape (a % 256) 1} h (omega arith) in
     either P (eqb a 0x3d) (one (eqb b 0x3e) BECOMES 2 (omega arith))
     (either P (eqb a 0x2b) (one (eqb b 0x3d && eqb c 0x3e) ADDS 3 (omega arith))
     (either P (eqb a 0x2d) (either P (eqb b 0x3e && eqb c 0x3e) {x = shape DELAYING 3} (omega arith) (one (eqb b 0x3e) ARROW 2 (omega arith)))
@@ -83,7 +89,8 @@ shape-width bs h =
     cases P (eqb (sortOf (getD bs 0 0)) letter)
     (λ e. let x : sortOf (getD bs 0 0) ≡ letter = eqb-true _ _ e in run-first letter digit bs h (omega arith) (omega arith))
     (λ _. cases P (eqb (sortOf (getD bs 0 0)) digit)
-    (λ e. let x : sortOf (getD bs 0 0) ≡ digit = eqb-true _ _ e in omega (arith, run-first underscore digit bs h (omega arith) (omega arith), number-run bs))
+    (λ e. let x : sortOf (getD bs 0 0) ≡ digit = eqb-true _ _ e in
+    omega (arith, run-first underscore digit bs h (omega arith) (omega arith), number-run bs))
     (λ _. sign-width (getD bs 0 0) (getD bs 1 0) (getD bs 2 0)))
 
 -- a number at the code's places: e is where its first digits end
@@ -101,12 +108,21 @@ module _ (p : List ℕ) (at e : ℕ) (here : e ≡ at + run underscore digit (dr
   unfolding numberWidth
   number-ends h = rw (behind-point, ne-eqb (sortOf (getD p (e + 1) 0)) digit h, and-false) here
 
-  pub number-goes : getD p e 0 ≡ 0x2e → sortOf (getD p (e + 1) 0) ≡ digit → e + 1 + run underscore digit (drop (e + 1) p) ≡ at + numberWidth (drop at p)
+  pub number-goes : getD p e 0 ≡ 0x2e → sortOf (getD p (e + 1) 0) ≡ digit →
+      e + 1 + run underscore digit (drop (e + 1) p) ≡ at + numberWidth (drop at p)
   unfolding numberWidth
   number-goes h g =
       let n = run underscore digit (drop at p) in
       let k : at + (n + 1) ≡ e + 1 = omega arith in
-      rw (behind-point, eq-eqb (sortOf (getD p (e + 1) 0)) digit g, getD-drop at p n 0, ← here, eq-eqb (getD p e 0) 0x2e h, drop-drop (n + 1) at p, k)
+      rw (
+        behind-point,
+        eq-eqb (sortOf (getD p (e + 1) 0)) digit g,
+        getD-drop at p n 0,
+        ← here,
+        eq-eqb (getD p e 0) 0x2e h,
+        drop-drop (n + 1) at p,
+        k,
+      )
       (omega arith)
 
 -- a token by the sort of its first byte, at the code's places
@@ -114,13 +130,15 @@ module _ (p : List ℕ) (at : ℕ) where
   byte-first : getD (drop at p) 0 0 ≡ getD p at 0
   byte-first = let z : at + 0 ≡ at = omega arith in getD-drop at p 0 0 ∙ ap (λ (j : ℕ). getD p j 0) z
 
-  pub shape-word : (e : ℕ) → e ≡ at + run letter digit (drop at p) → sortOf (getD p at 0) ≡ letter → shape (kindOf (part p at (e - at))) (e - at) ≡ shapeOf (drop at p)
+  pub shape-word : (e : ℕ) → e ≡ at + run letter digit (drop at p) → sortOf (getD p at 0) ≡ letter →
+      shape (kindOf (part p at (e - at))) (e - at) ≡ shapeOf (drop at p)
   unfolding shapeOf wordShape
   shape-word e h g =
       let n : run letter digit (drop at p) ≡ e - at = omega arith in
       rw (byte-first, eq-eqb (sortOf (getD p at 0)) letter g, n)
 
-  pub shape-number : (e : ℕ) → e ≡ at + numberWidth (drop at p) → sortOf (getD p at 0) ≡ digit → shape NUMBER (e - at) ≡ shapeOf (drop at p)
+  pub shape-number : (e : ℕ) → e ≡ at + numberWidth (drop at p) →
+      sortOf (getD p at 0) ≡ digit → shape NUMBER (e - at) ≡ shapeOf (drop at p)
   unfolding shapeOf
   shape-number e h g =
       let n : numberWidth (drop at p) ≡ e - at = omega arith in
@@ -135,7 +153,8 @@ module _ (p : List ℕ) (at : ℕ) where
 -- only a byte of the text is not 0
 byte-in : (bs : List ℕ) (i b : ℕ) → eqb (getD bs i 0) (suc b) ≡ true → i < length bs
 byte-in bs i b e =
-    ⊎-elim (λ (h : i < length bs). h) (λ (h : length bs ≤ i). absurd (omega (arith, eqb-true (getD bs i 0) (suc b) e, List·getD-eq-default bs 0 {n = i} h))) (lt-or-le i (length bs))
+    ⊎-elim (λ (h : i < length bs). h) (λ (h : length bs ≤ i).
+    absurd (omega (arith, eqb-true (getD bs i 0) (suc b) e, List·getD-eq-default bs 0 {n = i} h))) (lt-or-le i (length bs))
 
 number-fits : (bs : List ℕ) → numberWidth bs ≤ length bs
 unfolding numberWidth
@@ -162,7 +181,8 @@ sign-fits bs h =
     (either P (eqb a 0x2b) (one (eqb b 0x3d && eqb c 0x3e) ADDS 3 (three 0x3c))
     (either P (eqb a 0x2d) (cases P (eqb b 0x3e && eqb c 0x3e) {x = shape DELAYING 3} (three 0x3d) (λ _. one (eqb b 0x3e) ARROW 2 (two 0x3d)))
     (either P (eqb a 0x3c) (one (eqb b 0x2d && eqb c 0x3e) BOTH-WAYS 3 (three 0x2c))
-    (either P (eqb a 0x3a) (one (eqb b 0x3a) SCOPE 2 (two 0x39)) (one (eqb a 0x2e && eqb b 0x2e) DOTS 2 (λ e. two 0x2d (and-right (eqb a 0x2e) _ e)))))))
+    (either P (eqb a 0x3a) (one (eqb b 0x3a) SCOPE 2 (two 0x39))
+    (one (eqb a 0x2e && eqb b 0x2e) DOTS 2 (λ e. two 0x2d (and-right (eqb a 0x2e) _ e)))))))
 
 -- a token's kind is not that of the text's end
 sign-real : (a b c : ℕ) → signShape a b c .kind ≡ ENDED → ⊥
@@ -173,7 +193,8 @@ sign-real a b c =
     λ (t : Bool) (k w : ℕ) (h : k ≡ ENDED → ⊥). either P t {x = shape k w} {y = shape (a % 256) 1} h (λ e. omega arith) in
     either P (eqb a 0x3d) (one (eqb b 0x3e) BECOMES 2 (λ e. omega arith))
     (either P (eqb a 0x2b) (one (eqb b 0x3d && eqb c 0x3e) ADDS 3 (λ e. omega arith))
-    (either P (eqb a 0x2d) (either P (eqb b 0x3e && eqb c 0x3e) {x = shape DELAYING 3} (λ e. omega arith) (one (eqb b 0x3e) ARROW 2 (λ e. omega arith)))
+    (either P (eqb a 0x2d) (either P (eqb b 0x3e && eqb c 0x3e) {x = shape DELAYING 3}
+    (λ e. omega arith) (one (eqb b 0x3e) ARROW 2 (λ e. omega arith)))
     (either P (eqb a 0x3c) (one (eqb b 0x2d && eqb c 0x3e) BOTH-WAYS 3 (λ e. omega arith))
     (either P (eqb a 0x3a) (one (eqb b 0x3a) SCOPE 2 (λ e. omega arith)) (one (eqb a 0x2e && eqb b 0x2e) DOTS 2 (λ e. omega arith))))))
 
@@ -182,7 +203,8 @@ unfolding shapeOf wordShape
 shape-real bs =
     let P : Shape → Type 0 = λ (s : Shape). s .kind ≡ ENDED → ⊥ in
     either P (eqb (sortOf (getD bs 0 0)) letter) {x = wordShape bs} (λ e. omega (arith, kind-from (take (run letter digit bs) bs)))
-    (either P (eqb (sortOf (getD bs 0 0)) digit) {x = shape NUMBER (numberWidth bs)} (λ e. omega arith) (sign-real (getD bs 0 0) (getD bs 1 0) (getD bs 2 0)))
+    (either P (eqb (sortOf (getD bs 0 0)) digit) {x = shape NUMBER (numberWidth bs)}
+    (λ e. omega arith) (sign-real (getD bs 0 0) (getD bs 1 0) (getD bs 2 0)))
 
 -- a token lies within the text
 pub shape-fits : (bs : List ℕ) → 0 < length bs → shapeOf bs .width ≤ length bs
@@ -223,9 +245,12 @@ tokens-enough (suc n) (suc m) i bs h g = go (none rest) refl (tokens-enough n m 
     s = shapeOf rest
 
     go : (b : Bool) → none rest ≡ b →
-        (length (drop (s .width) rest) < n → length (drop (s .width) rest) < m → tokensBy n (i + w + s .width) (drop (s .width) rest) ≡ tokensBy m (i + w + s .width) (drop (s .width) rest)) →
-        cond b (token ENDED (i + w) [] ∷ []) (token (s .kind) (i + w) (take (s .width) rest) ∷ tokensBy n (i + w + s .width) (drop (s .width) rest))
-        ≡ cond b (token ENDED (i + w) [] ∷ []) (token (s .kind) (i + w) (take (s .width) rest) ∷ tokensBy m (i + w + s .width) (drop (s .width) rest))
+        (length (drop (s .width) rest) < n → length (drop (s .width) rest) < m →
+        tokensBy n (i + w + s .width) (drop (s .width) rest) ≡ tokensBy m (i + w + s .width) (drop (s .width) rest)) →
+        cond b (token ENDED (i + w) [] ∷ []) (token (s .kind) (i + w) (take (s .width) rest) ∷ tokensBy n
+        (i + w + s .width) (drop (s .width) rest))
+        ≡ cond b (token ENDED (i + w) [] ∷ []) (token (s .kind) (i + w) (take (s .width) rest) ∷ tokensBy m
+        (i + w + s .width) (drop (s .width) rest))
     go true e f = refl
     go false e f =
         let p = shape-width rest e in
@@ -242,7 +267,8 @@ module _ (p : List ℕ) (i : ℕ) where
       from p i ≡ token (shapeOf (drop at p) .kind) at (part p at w) ∷ tokensBy (length p) (at + w) (drop (at + w) p)
   unfolding from tokensBy
   from-step at w e h g =
-      let d : drop (run blank blank (drop i p)) (drop i p) ≡ drop at p = drop-drop (run blank blank (drop i p)) i p ∙ ap (λ (k : ℕ). drop k p) e in
+      let d : drop (run blank blank (drop i p)) (drop i p) ≡ drop at p =
+      drop-drop (run blank blank (drop i p)) i p ∙ ap (λ (k : ℕ). drop k p) e in
       rw (d, e, none-length (drop at p) (simp length-drop (omega arith)), g, drop-drop w at p)
 
   pub from-token : (at w : ℕ) → i + run blank blank (drop i p) ≡ at → at < length p → shapeOf (drop at p) .width ≡ w →
@@ -255,7 +281,8 @@ module _ (p : List ℕ) (i : ℕ) where
       (tokens-enough (length p) (suc (length p)) (at + w) (drop (at + w) p) (simp length-drop (omega arith)) (simp length-drop (omega arith)))
 
   -- the same of a token as the code knows it
-  pub stands-end : (at : ℕ) → at ≡ i + run blank blank (drop i p) → length p ≤ at → Stands p i (record { kind = ENDED; start = at; end = at })
+  pub stands-end : (at : ℕ) → at ≡ i + run blank blank (drop i p) → length p ≤ at →
+      Stands p i (record { kind = ENDED; start = at; end = at })
   unfolding behind
   stands-end at e h =
       let z : at - at ≡ 0 = omega arith in
@@ -273,7 +300,8 @@ module _ (p : List ℕ) (i : ℕ) where
   stands-token at s e h g =
       let z : at + s .width - at ≡ s .width = omega arith in
       record {
-        tokens = rw (z, g, ne-eqb (shapeOf (drop at p) .kind) ENDED (shape-real (drop at p))) (from-token at (shapeOf (drop at p) .width) (sym e) h refl);
+        tokens = rw (z, g, ne-eqb (shapeOf (drop at p) .kind) ENDED (shape-real (drop at p)))
+            (from-token at (shapeOf (drop at p) .width) (sym e) h refl);
         forward = omega arith;
         empty = λ k. absurd (shape-real (drop at p) (ap (λ (x : Shape). x .kind) (sym g) ∙ k));
         wide = λ n. rw g (omega (arith, shape-width (drop at p) (none-length (drop at p) (simp length-drop (omega arith)))));
@@ -299,7 +327,8 @@ from-start p i =
     let z : run blank blank (drop at p) ≡ 0 =
     ap (run blank blank) (sym (drop-drop (run blank blank (drop i p)) i p)) ∙ run-stops blank blank (drop i p) in
     let e : at + run blank blank (drop at p) ≡ at = omega (arith, z) in
-    ⊎-elim (λ (l : at < length p). from-token p at at (shapeOf (drop at p) .width) e l refl ∙ sym (from-token p i at (shapeOf (drop at p) .width) refl l refl))
+    ⊎-elim (λ (l : at < length p). from-token p at at (shapeOf (drop at p) .width) e l refl
+    ∙ sym (from-token p i at (shapeOf (drop at p) .width) refl l refl))
     (λ (g : length p ≤ at). from-end p at (omega arith) ∙ ap (λ (k : ℕ). token ENDED k [] ∷ []) e ∙ sym (from-end p i g))
     (lt-or-le at (length p))
 

@@ -1,15 +1,19 @@
 -- Laws of values: each rule goes on by a token at least, and rules in a row begin from what a rule has said.
-use Rattle.common.specs.Words.{ℕ, zero, suc, _-_, _<_, _≤_, arith, Bool, true, false, true≢false, cond, List, _⊎_, ⊎-elim, _≡_, refl, sym, ap, _∙_, eqb, ne-eqb, eq-eqb, eqb-true}
+use Rattle.common.specs.Words.{ℕ, zero, suc, _-_, _<_, _≤_, arith, Bool, true, false, true≢false, cond, List, _⊎_}
+use Rattle.common.specs.Words.{⊎-elim, _≡_, refl, sym, ap, _∙_, eqb, ne-eqb, eq-eqb, eqb-true}
 use Rattle.words.specs.Words.{isName}
-use Rattle.words.specs.Kinds.{ENDED, ADDS, BECOMES, SCOPE, COMMA, SEMICOLON, OPEN-PAREN, CLOSE-PAREN, OPEN-BRACKET, CLOSE-BRACKET, OPEN-BRACE, CLOSE-BRACE}
+use Rattle.words.specs.Kinds.{ENDED, ADDS, BECOMES, SCOPE, COMMA, SEMICOLON, OPEN-PAREN, CLOSE-PAREN, OPEN-BRACKET}
+use Rattle.words.specs.Kinds.{CLOSE-BRACKET, OPEN-BRACE, CLOSE-BRACE}
 use Rattle.tokens.specs.Tokens.{Token}
 use Rattle.tokens.specs.Laws.{cases}
 use Rattle.steps.specs.Steps.{Step, On, Stop, _⟫_, next, is, named, stopAt, unfit, any, the, name, many}
 use Rattle.steps.specs.Lifted.{firstKind}
-use Rattle.steps.specs.Laws.{Moved, Moves, Advances, advances, stopped, moved-any, moved-then, moved-less, moved-either, moves-the, moves-name, moves-many}
+use Rattle.steps.specs.Laws.{Moved, Moves, Advances, advances, stopped, moved-any, moved-then, moved-less, moved-either}
+use Rattle.steps.specs.Laws.{moves-the, moves-name, moves-many}
 use Rattle.steps.specs.Laws.{then-then, choose-on, choose-off, kind-on, kind-off, is-on, is-off}
 use Rattle.common.specs.Tests.{lt-or-le}
-use Rattle.values.specs.Values.{aValue, tooDeep, partKind, beginsPart, valueBy, commaBy, valuesBy, listBy, fieldBy, recordBy, partBy, partOf, valueOf, value, values}
+use Rattle.values.specs.Values.{aValue, tooDeep, partKind, beginsPart, valueBy, commaBy, valuesBy, listBy, fieldBy}
+use Rattle.values.specs.Values.{recordBy, partBy, partOf, valueOf, value, values}
 use Rattle.values.specs.Values.{inner, scoped, assigns, association, associations, block}
 
 -- a kind that is none of the text's end
@@ -88,7 +92,8 @@ assigns-moves ts = moved-either (is ADDS ts) (the-moves ADDS (λ e. omega arith)
 pub association-moves : Moves 1 association
 unfolding association
 association-moves ts =
-    moved-less 1 (omega arith) (moved-then (moved-then (moved-then (scoped-moves ts) assigns-moves) values-moves) (the-moves SEMICOLON (λ e. omega arith)))
+    moved-less 1 (omega arith) (moved-then (moved-then (moved-then (scoped-moves ts) assigns-moves) values-moves)
+    (the-moves SEMICOLON (λ e. omega arith)))
 
 pub associations-moves : Moves 0 associations
 unfolding associations
@@ -97,7 +102,8 @@ associations-moves = moves-many named association (advances named association-mo
 pub block-moves : Moves 1 block
 unfolding block
 block-moves ts =
-    moved-less 1 (omega arith) (moved-then (moved-then (moves-the OPEN-BRACE (λ e. omega arith) ts) associations-moves) (the-moves CLOSE-BRACE (λ e. omega arith)))
+    moved-less 1 (omega arith) (moved-then (moved-then (moves-the OPEN-BRACE (λ e. omega arith) ts) associations-moves)
+    (the-moves CLOSE-BRACE (λ e. omega arith)))
 
 -- ## Rules in a row
 
@@ -182,7 +188,8 @@ part-none : partOf 0 ≡ partBy (stopAt 23 tooDeep) (stopAt 23 tooDeep)
 unfolding partOf
 part-none = refl
 
-part-some : (d : ℕ) → 0 < d → partOf d ≡ partBy (λ ts. the OPEN-PAREN ts ⟫ listBy (valueOf (d - 1))) (λ ts. the OPEN-BRACKET ts ⟫ recordBy (valueOf (d - 1)))
+part-some : (d : ℕ) → 0 < d →
+    partOf d ≡ partBy (λ ts. the OPEN-PAREN ts ⟫ listBy (valueOf (d - 1))) (λ ts. the OPEN-BRACKET ts ⟫ recordBy (valueOf (d - 1)))
 unfolding partOf
 part-some zero h = absurd (omega arith)
 part-some (suc d) h = let e : suc d - 1 ≡ d = omega arith in rw e
@@ -200,14 +207,18 @@ module _ (d : ℕ) (s : Step) where
   pub part-holds : 0 < d → firstKind s ≡ OPEN-BRACKET → s ⟫ the OPEN-BRACKET ⟫ recordBy (valueOf (d - 1)) ≡ s ⟫ partOf d
   part-holds h e = rw (part-some d h) (then-then s (the OPEN-BRACKET) (recordBy (valueOf (d - 1))) ∙ part-record _ _ s e)
 
-  part-by : (firstKind s ≡ OPEN-PAREN → ⊥) → (firstKind s ≡ OPEN-BRACKET → ⊥) → s ⟫ (λ ts. cond (beginsPart ts) (any ts) (unfit aValue ts)) ≡ s ⟫ partOf d
+  part-by : (firstKind s ≡ OPEN-PAREN → ⊥) → (firstKind s ≡ OPEN-BRACKET → ⊥) →
+      s ⟫ (λ ts. cond (beginsPart ts) (any ts) (unfit aValue ts)) ≡ s ⟫ partOf d
   unfolding atom
   part-by n m =
-      ⊎-elim (λ (l : 0 < d). rw (part-some d l) (part-rest _ _ s n m)) (λ (g : d ≤ 0). let z : d ≡ 0 = omega arith in rw (z, part-none) (part-rest _ _ s n m)) (lt-or-le 0 d)
+      ⊎-elim (λ (l : 0 < d). rw (part-some d l) (part-rest _ _ s n m)) (λ (g : d ≤ 0). let z : d ≡ 0 = omega arith in
+      rw (z, part-none) (part-rest _ _ s n m)) (lt-or-le 0 d)
 
-  pub part-atom : (firstKind s ≡ OPEN-PAREN → ⊥) → (firstKind s ≡ OPEN-BRACKET → ⊥) → partKind (firstKind s) ≡ true → s ⟫ any ≡ s ⟫ partOf d
+  pub part-atom : (firstKind s ≡ OPEN-PAREN → ⊥) → (firstKind s ≡ OPEN-BRACKET → ⊥) →
+      partKind (firstKind s) ≡ true → s ⟫ any ≡ s ⟫ partOf d
   unfolding partKind
   part-atom n m h = choose-on beginsPart any (unfit aValue) s (kind-on partKind s refl h) ∙ part-by n m
 
-  pub part-unfit : (firstKind s ≡ OPEN-PAREN → ⊥) → (firstKind s ≡ OPEN-BRACKET → ⊥) → partKind (firstKind s) ≡ false → s ⟫ unfit aValue ≡ s ⟫ partOf d
+  pub part-unfit : (firstKind s ≡ OPEN-PAREN → ⊥) → (firstKind s ≡ OPEN-BRACKET → ⊥) →
+      partKind (firstKind s) ≡ false → s ⟫ unfit aValue ≡ s ⟫ partOf d
   part-unfit n m h = choose-off beginsPart any (unfit aValue) s (kind-off partKind s h) ∙ part-by n m

@@ -21,7 +21,8 @@ pub worst-then : (f : Fault) {g h : Fault} (a b : List Fault) → g ≡ worst f 
 worst-then f a b x y = rw (worst-append f a b, ← x) y
 
 -- a connection's threads, and then what is judged where both are there
-pub ends-then : (p : List ℕ) (rows : List Row) (k s r : ℕ) (f : Fault) {g h i : Fault} → g ≡ worst f (faultIf (none s) 21 (cell rows k 4) noSuchThread) →
+pub ends-then : (p : List ℕ) (rows : List Row) (k s r : ℕ) (f : Fault) {g h i : Fault} →
+    g ≡ worst f (faultIf (none s) 21 (cell rows k 4) noSuchThread) →
     h ≡ worst g (faultIf (none r) 21 (cell rows k 6) noSuchThread) →
     i ≡ worst h (cond (none s) [] (cond (none r) [] (joinFaults p rows k (s - 1) (r - 1)))) → i ≡ worst f (endFaults p rows k s r)
 unfolding endFaults

@@ -18,7 +18,8 @@ ghost use Rattle.steps.specs.Faults.{worst};
 ghost use Rattle.rows.specs.Rows.{rowWords};
 ghost use Rattle.index.specs.Index.{rowsIn, Indexed};
 ghost use Rattle.ways.specs.Ways.{cell, above, implementationOf, portOf, endsOf, Known};
-ghost use Rattle.verdict.specs.Verdict.{faultIf, none, againFaults, threadFaults, timingBy, outFaults, inFaults, twiceFaults, linkFaults, rowFaults, processFaults, judged};
+ghost use Rattle.verdict.specs.Verdict.{faultIf, none, againFaults, threadFaults, timingBy, outFaults, inFaults};
+ghost use Rattle.verdict.specs.Verdict.{twiceFaults, linkFaults, rowFaults, processFaults, judged};
 
 // What is wrong, for people.
 pub const NO_PROCESS: usize = 0x330;
@@ -98,7 +99,8 @@ fn is_stray(
     k: usize,
 ) -> bool
     requires { ⌜ Known (now text) (now rows) (now declared) (now types) count × (k < count) ⌝ }
-    ensures { λ r. ⌜ r ≡ (none (above (now (text .entry)) (rowsIn count (now (rows .entry))) k) && none (implementationOf (now (text .entry)) (rowsIn count (now (rows .entry))) k)) ⌝ }
+    ensures { λ r. ⌜ r ≡ (none (above (now (text .entry)) (rowsIn count (now (rows .entry))) k)
+        && none (implementationOf (now (text .entry)) (rowsIn count (now (rows .entry))) k)) ⌝ }
 {
     if above(types, count, k) != 0 {
         return false;
@@ -267,7 +269,8 @@ fn link(
     k: usize,
     fault: Fault,
 ) -> Fault
-    requires { ⌜ Known (now text) (now rows) (now declared) (now types) count × Indexed (now text) 1 (now rows) (now connected) count × (k < count) ⌝ }
+    requires { ⌜ Known (now text) (now rows) (now declared) (now types) count
+        × Indexed (now text) 1 (now rows) (now connected) count × (k < count) ⌝ }
     ensures { λ r. ⌜ r ≡ worst fault (linkFaults (now (text .entry)) (rowsIn count (now (rows .entry))) k) ⌝ }
 {
     let process = cell(rows, count, k, 1);
@@ -299,7 +302,8 @@ fn row(
     k: usize,
     fault: Fault,
 ) -> Fault
-    requires { ⌜ Known (now text) (now rows) (now declared) (now types) count × Indexed (now text) 1 (now rows) (now connected) count × (k < count) ⌝ }
+    requires { ⌜ Known (now text) (now rows) (now declared) (now types) count
+        × Indexed (now text) 1 (now rows) (now connected) count × (k < count) ⌝ }
     ensures { λ r. ⌜ r ≡ worst fault (rowFaults (now (text .entry)) (rowsIn count (now (rows .entry))) k) ⌝ }
 {
     let sort = cell(rows, count, k, 0);

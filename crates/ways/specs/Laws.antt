@@ -1,5 +1,6 @@
 -- Laws of ways: one type more, where the last one was, and what lent memory holds.
-use Rattle.common.specs.Words.{ℕ, zero, suc, _+_, _-_, _<_, _≤_, arith, Bool, true, false, cond, List, [], _∷_, _++_, _≡_, refl, sym, ap, _∙_}
+use Rattle.common.specs.Words.{ℕ, zero, suc, _+_, _-_, _<_, _≤_, arith, Bool, true, false, cond, List, []}
+use Rattle.common.specs.Words.{_∷_, _++_, _≡_, refl, sym, ap, _∙_}
 use Rattle.common.specs.Words.{eqb, eq-eqb, ne-eqb, length, getD, ⊎-elim, set, getD-set-same, getD-set-other}
 use Rattle.common.specs.Tests.{lt-or-le}
 use native.Mathlib.Numerals.{unary-clauses}
@@ -8,7 +9,8 @@ use Rattle.rows.specs.Rows.{Row}
 use Rattle.index.specs.Found.{found, found-le}
 use Rattle.index.specs.Index.{rowsIn, keysOf}
 use Rattle.index.specs.Laws.{keys-length}
-use Rattle.ways.specs.Ways.{cell, look, typeNamed, above, implementationOf, wayBy, way, mostTypes, firstIn, given, propertyOf, ends, Bounded, Known}
+use Rattle.ways.specs.Ways.{cell, look, typeNamed, above, implementationOf, wayBy, way, mostTypes, firstIn, given}
+use Rattle.ways.specs.Ways.{propertyOf, ends, Bounded, Known}
 
 -- ## What is found is there
 
@@ -80,7 +82,8 @@ module _ {up : ℕ → ℕ} {rows : List Row} {left n : ℕ} {all : Bool} (x : E
   unfolding ends
   ends-here l h i z = rw (way-step up left n l h, eq-eqb (cell rows (n - 1) 3) 0 (sym i ∙ z)) at (x .same)
 
-  pub ends-on : {v m : ℕ} → 0 < left → 0 < n → v ≡ cell rows (n - 1) 3 → (v ≡ 0 → ⊥) → m ≡ up (n - 1) → EndsLeft up rows (left - 1) m all
+  pub ends-on : {v m : ℕ} → 0 < left → 0 < n → v ≡ cell rows (n - 1) 3 →
+      (v ≡ 0 → ⊥) → m ≡ up (n - 1) → EndsLeft up rows (left - 1) m all
   unfolding ends
   ends-on {v} {m} l h i z u =
       record { same = rw u (rw (way-step up left n l h, ne-eqb (cell rows (n - 1) 3) 0 (rw i at z)) at (x .same)) }
@@ -100,12 +103,14 @@ pub known-way : {p rows declared types : List ℕ} {count : ℕ} → Known p row
     wayBy (λ (j : ℕ). getD types j 0) mostTypes (getD types k 0) ≡ way p (rowsIn count rows) k
 unfolding way
 known-way {p} {rows} {declared} {types} {count} x k l =
-    way-same (λ (j : ℕ). getD types j 0) (above p (rowsIn count rows)) count (x .typed) (λ j h. type-le p count rows (cell (rowsIn count rows) j 3)) mostTypes
+    way-same (λ (j : ℕ). getD types j 0) (above p (rowsIn count rows)) count (x .typed)
+    (λ j h. type-le p count rows (cell (rowsIn count rows) j 3)) mostTypes
     (getD types k 0) (known-bounded x .within k l)
     ∙ ap (λ (n : ℕ). wayBy (above p (rowsIn count rows)) mostTypes n) (x .typed k l)
 
 -- one entry more is right
-pub types-more : {f : ℕ → ℕ} (types : List ℕ) {k v : ℕ} → ((j : ℕ) → j < k → getD types j 0 ≡ f j) → k < length types → v ≡ f k →
+pub types-more : {f : ℕ → ℕ} (types : List ℕ) {k v : ℕ} →
+    ((j : ℕ) → j < k → getD types j 0 ≡ f j) → k < length types → v ≡ f k →
     (j : ℕ) → j < k + 1 → getD (set types k v) j 0 ≡ f j
 types-more {f} types {k} {v} h l e j i =
     ⊎-elim (λ (b : j < k). getD-set-other types k j v 0 (λ z. omega arith) ∙ h j b)
@@ -120,7 +125,8 @@ unfolding firstIn
 first-append has [] b = refl
 first-append has (k ∷ ks) b = rw (first-append has ks b) (go (has k) (firstIn has ks))
   where
-    go : (n m : ℕ) → cond (eqb n 0) (cond (eqb m 0) (firstIn has b) m) n ≡ cond (eqb (cond (eqb n 0) m n) 0) (firstIn has b) (cond (eqb n 0) m n)
+    go : (n m : ℕ) → cond (eqb n 0) (cond (eqb m 0) (firstIn has b) m) n
+        ≡ cond (eqb (cond (eqb n 0) m n) 0) (firstIn has b) (cond (eqb n 0) m n)
     go zero m = refl
     go (suc n) m = simp (ne-eqb (suc n) 0 (λ e. omega arith))
 

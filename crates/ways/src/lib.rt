@@ -8,7 +8,8 @@ ghost use Rattle.common.specs.Words.{_≡_, _*_, _<_, _≤_, ℕ, _∷_, length
 ghost use Rattle.keys.specs.Keys.{key};
 ghost use Rattle.rows.specs.Rows.{rowWords, aPort};
 ghost use Rattle.index.specs.Index.{rowsIn, Indexed};
-ghost use Rattle.ways.specs.Ways.{cell, look, typeNamed, above, implementationOf, threadNamed, mostTypes, wayBy, firstIn, given, propertyOf, portOf, ends, Bounded, Known};
+ghost use Rattle.ways.specs.Ways.{cell, look, typeNamed, above, implementationOf, threadNamed, mostTypes, wayBy, firstIn};
+ghost use Rattle.ways.specs.Ways.{given, propertyOf, portOf, ends, Bounded, Known};
 
 // How many types a way has at most, with the thread's own.
 const MOST_TYPES: usize = 8;
@@ -116,7 +117,8 @@ pub fn above(types: &[u32], count: usize, k: usize) -> usize
 // What the first type has in a column of those on a way that have it.
 fn on_way(rows: &[usize], types: &[u32], count: usize, number: usize, c: usize) -> usize
     requires { ⌜ (rowWords * count ≤ length (now rows)) × Bounded (now types) count × (number ≤ count) × (c < rowWords) ⌝ }
-    ensures { λ r. ⌜ r ≡ firstIn (λ (j : ℕ). cell (rowsIn count (now (rows .entry))) j c) (wayBy (λ (j : ℕ). getD (now (types .entry)) j 0) mostTypes number) ⌝ }
+    ensures { λ r. ⌜ r ≡ firstIn (λ (j : ℕ). cell (rowsIn count (now (rows .entry))) j c)
+        (wayBy (λ (j : ℕ). getD (now (types .entry)) j 0) mostTypes number) ⌝ }
 {
     let mut n = number;
     let mut left = MOST_TYPES;
@@ -180,7 +182,8 @@ fn port_named(
     name: usize,
 ) -> usize
     requires { ⌜ Indexed (now text) 0 (now rows) (now declared) count × (j < count) ⌝ }
-    ensures { λ r. ⌜ r ≡ look (now (text .entry)) 0 (rowsIn count (now (rows .entry))) (key aPort (cell (rowsIn count (now (rows .entry))) j 2) name 0 0) ⌝ }
+    ensures { λ r. ⌜ r ≡ look (now (text .entry)) 0 (rowsIn count (now (rows .entry)))
+        (key aPort (cell (rowsIn count (now (rows .entry))) j 2) name 0 0) ⌝ }
 {
     let key = Key {
         sort: PORT,

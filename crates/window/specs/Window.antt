@@ -1,7 +1,7 @@
 -- The window of the receiver's job that was released last, from the columns of a plan.
 use Rattle.common.specs.Words.{ℕ, _+_, _-_, _/_, _^_, _<_, _≤_, arith, div-mul-le-self, mul-le-mul-right, _≡_}
 use Rattle.model.specs.Model.{Queue, receiverPeriod, released, upTo, first, last}
-use Rattle.calendar.specs.Calendar.{tick}
+use Rattle.calendar.specs.Calendar.{tick, message}
 use Rattle.plan.specs.Limits.{lastTick}
 use Rattle.plan.specs.Plan.{queueAt, Usable}
 use Rattle.plan.specs.declared.Plan.{Plan}
@@ -14,8 +14,8 @@ abbrev pub windowAt : Queue → ℕ → ℕ → Window
 windowAt q P t = record {
   low = tick (released P (t / P - 1));
   high = tick (released P (t / P));
-  before = upTo q (released P (t / P - 1));
-  end = upTo q (released P (t / P));
+  before = message (upTo q (released P (t / P - 1)));
+  end = message (upTo q (released P (t / P)));
 }
 
 -- both its ticks are not after t
@@ -33,14 +33,14 @@ module _ (p : Plan) (q t : ℕ) where
   abbrev pub planWindow : Window
   planWindow = windowAt (planColumns p q) (receiverPeriod (queueAt p q)) t
 
-  pub window-first : planWindow .before + 1 ≡ first (queueAt p q) (t / receiverPeriod (queueAt p q))
+  pub window-first : planWindow .before .0 + 1 ≡ first (queueAt p q) (t / receiverPeriod (queueAt p q))
   unfolding last
   window-first = rw (upTo-columns p q)
 
-  pub window-last : planWindow .end ≡ last (queueAt p q) (t / receiverPeriod (queueAt p q))
+  pub window-last : planWindow .end .0 ≡ last (queueAt p q) (t / receiverPeriod (queueAt p q))
   unfolding last
   window-last = upTo-columns p q _
 
-  pub before-fits : Usable p q → t ≤ lastTick → planWindow .before + 1 < 2 ^ 64
+  pub before-fits : Usable p q → t ≤ lastTick → planWindow .before .0 + 1 < 2 ^ 64
   before-fits u h =
       omega (arith, upTo-fits (lent p q u) (planWindow .low .0) (omega (arith, low-within (receiverPeriod (queueAt p q)) t)))

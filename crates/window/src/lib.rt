@@ -16,8 +16,8 @@ ghost use Rattle.window.specs.Window.{windowAt};
 pub struct Window {
     pub low: Tick,
     pub high: Tick,
-    pub before: u64,
-    pub end: u64,
+    pub before: Number,
+    pub end: Number,
 }
 
 // The release of the job before, and tick 0 where there is none.
@@ -47,23 +47,26 @@ pub fn window_at<'a>(
     let job = calendar::job_at(every, at);
     let low = release_before(every, job);
     let high = calendar::release_of(every, job);
+    let before = counting::count::up_to(sends, period, deadline, tasks, queue, low);
+    let end = counting::count::up_to(sends, period, deadline, tasks, queue, high);
+    // numbers count from 1, so the last number up to a tick is the count of messages up to it
     Window {
         low,
         high,
-        before: counting::count::up_to(sends, period, deadline, tasks, queue, low),
-        end: counting::count::up_to(sends, period, deadline, tasks, queue, high),
+        before: Number(before),
+        end: Number(end),
     }
 }
 
 // The number to read next: a reading place before the window counts as its first number, which is the one after `before`.
-pub fn next_number(reading: u64, before: u64) -> Number
-    requires { ⌜ before + 1 < 2 ^ 64 ⌝ }
-    ensures { λ r. ⌜ r ≡ message (max reading (before + 1)) ⌝ }
+pub fn next_number(reading: Number, before: Number) -> Number
+    requires { ⌜ before .0 + 1 < 2 ^ 64 ⌝ }
+    ensures { λ r. ⌜ r ≡ message (max (reading .0) (before .0 + 1)) ⌝ }
 {
-    if reading <= before {
-        return Number(before + 1);
+    if reading.0 <= before.0 {
+        return Number(before.0 + 1);
     }
-    Number(reading)
+    reading
 }
 
 // The sender of message n, whose deadline lies after tick `low` and not after tick `high`, from the plan's columns.
@@ -80,7 +83,8 @@ pub fn sender_in<'a>(
     requires { ⌜ Lent (now sends) (now period) (now deadline) tasks queue × (high .0 ≤ lastTick)
         × (upTo (columnsAt (now sends) (now period) (now deadline) tasks queue) (low .0) < n .0)
         × (n .0 ≤ upTo (columnsAt (now sends) (now period) (now deadline) tasks queue) (high .0)) ⌝ }
-    ensures { λ r. ⌜ r ≡ senderOf (columnsAt (now (sends .entry)) (now (period .entry)) (now (deadline .entry)) tasks queue) lastTick (n .0) ⌝ }
+    ensures { λ r. ⌜ r ≡ senderOf (columnsAt (now (sends .entry)) (now (period .entry)) (now (deadline .entry)) tasks queue) lastTick
+        (n .0) ⌝ }
 {
     let at = counting::sender::tick_between(sends, period, deadline, tasks, queue, n, low, high);
     counting::sender::sender_at(sends, period, deadline, tasks, queue, n, at)

@@ -1,6 +1,7 @@
 -- How a word is found in the list: by a sum over its letters that no two words of the list share. What the code's tables hold is
 -- reckoned from the list itself.
-use Rattle.common.specs.Words.{ℕ, zero, suc, _+_, _-_, _*_, _/_, _%_, _<_, _≤_, arith, Bool, true, false, cond, _&&_, List, [], _∷_, _++_, _⊎_, inl, inr, ⊎-elim}
+use Rattle.common.specs.Words.{ℕ, zero, suc, _+_, _-_, _*_, _/_, _%_, _<_, _≤_, arith, Bool, true, false, cond}
+use Rattle.common.specs.Words.{_&&_, List, [], _∷_, _++_, _⊎_, inl, inr, ⊎-elim}
 use Rattle.common.specs.Words.{_≡_, refl, sym, ap, _∙_, eqb, leb, eqb-true, leb-true, length, getD, replicate}
 use Rattle.common.specs.Tests.{clash, true-or-false, and-left, and-right}
 use Rattle.common.specs.Rows.{every, every-at}
@@ -61,7 +62,8 @@ entry k l =
     }
 
 -- a word that has no number stands nowhere
-rank-is : (vs : List (List ℕ)) (k other : ℕ) (w : List ℕ) → (rank vs k other w ≡ other) ⊎ ((j : ℕ) × (j < length vs) × (same (getD vs j []) w ≡ true))
+rank-is : (vs : List (List ℕ)) (k other : ℕ) (w : List ℕ) →
+    (rank vs k other w ≡ other) ⊎ ((j : ℕ) × (j < length vs) × (same (getD vs j []) w ≡ true))
 unfolding rank
 rank-is [] k other w = inl refl
 rank-is (v ∷ vs) k other w = go (same v w) refl (rank-is vs (k + 1) other w)
@@ -69,7 +71,8 @@ rank-is (v ∷ vs) k other w = go (same v w) refl (rank-is vs (k + 1) other w)
     Held : List (List ℕ) → Type 0
     Held us = (j : ℕ) × (j < length us) × (same (getD us j []) w ≡ true)
 
-    go : (t : Bool) → same v w ≡ t → (rank vs (k + 1) other w ≡ other) ⊎ Held vs → (cond t k (rank vs (k + 1) other w) ≡ other) ⊎ Held (v ∷ vs)
+    go : (t : Bool) → same v w ≡ t → (rank vs (k + 1) other w ≡ other) ⊎ Held vs →
+        (cond t k (rank vs (k + 1) other w) ≡ other) ⊎ Held (v ∷ vs)
     go true e s = inr (0, omega arith, e)
     go false e (inl r) = inl r
     go false e (inr x) = inr (suc (x .0), omega (arith, x .1), x .2)
@@ -89,7 +92,8 @@ kind-other w fails =
     ⊎-elim (λ (r : rank listed firstWord NAME w ≡ NAME). r)
     (λ (x : (j : ℕ) × (j < length listed) × (same (getD listed j []) w ≡ true)).
     let v : wordAt (x .0) ≡ w = same-eq _ _ (x .2) in
-    let p : numberWith (sumOf w) ≡ x .0 = sym (ap (λ (u : List ℕ). numberWith (sumOf u)) v) ∙ entry (x .0) (omega (arith, x .1, listed-length)) .placed in
+    let p : numberWith (sumOf w) ≡ x .0 = sym (ap (λ (u : List ℕ). numberWith (sumOf u)) v)
+    ∙ entry (x .0) (omega (arith, x .1, listed-length)) .placed in
     absurd (clash (rw (p, v) (same-refl w)) fails))
     (rank-is listed firstWord NAME w)
 

@@ -1,5 +1,6 @@
 -- Words that are written out, as lists of bytes.
-use Rattle.common.specs.Words.{ℕ, zero, suc, _+_, _-_, _<_, Bool, true, false, cond, List, [], _∷_, _++_, _≡_, refl, ap, eqb, eq-eqb, ne-eqb, eqb-true, length, getD}
+use Rattle.common.specs.Words.{ℕ, zero, suc, _+_, _-_, _<_, Bool, true, false, cond, List, [], _∷_, _++_, _≡_}
+use Rattle.common.specs.Words.{refl, ap, eqb, eq-eqb, ne-eqb, eqb-true, length, getD}
 use Rattle.common.specs.Stores.{part, part-cons}
 use Prim.Native.String.{String, len, charAt}
 use Prim.Native.Char.{code}

@@ -16,7 +16,8 @@ returns c =
     let s = stateOf (a .text .now) (a .reading) (a .rows .now) in let t = stateOf (a .text .now) (j .symbol-on .result) (a .rows .now) in
     rw (c .on .ensures, c .before .nothing .ensures)
     (does-quiet t nothing ∙ none-on (listed (a .word) (a .place)) t (sym (k .next .ensures) ∙ c .before .before .if1 .taken)
-    ∙ ap (λ (x : State). does x (noneOr (listed (a .word) (a .place)))) (j .symbol-on .ensures (a .rows .now)) ∙ list-does (a .word) (a .place) s)
+    ∙ ap (λ (x : State). does x (noneOr (listed (a .word) (a .place)))) (j .symbol-on .ensures (a .rows .now))
+    ∙ list-does (a .word) (a .place) s)
 
 returns-2 : tie.Need-returns-2
 returns-2 c =
@@ -28,4 +29,5 @@ returns-2 c =
 pub list-in-spec : {M : Type 1} → statement M
 list-in-spec =
     tie.close
-    (tie.spec (λ c κs. search needs) (λ c κs. search needs) (λ c κs. search needs) (λ c κs. search needs) returns (λ c κs. search needs) (λ c. search needs) returns-2)
+    (tie.spec (λ c κs. search needs) (λ c κs. search needs) (λ c κs. search needs)
+    (λ c κs. search needs) returns (λ c κs. search needs) (λ c. search needs) returns-2)

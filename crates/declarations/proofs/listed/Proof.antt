@@ -13,14 +13,17 @@ returns c =
 returns-2 : tie.Need-returns-2
 returns-2 c =
     let u = c .before .before in let i = u .before .before in let a = i .before .before .before .before .args in
-    u .subcomponents .ensures ∙ listed-subcomponents (a .word) (a .place) (stateOf (a .text .now) (a .reading) (a .rows .now)) (i .before .if1 .left) (i .if2 .taken)
+    u .subcomponents .ensures ∙ listed-subcomponents (a .word) (a .place)
+    (stateOf (a .text .now) (a .reading) (a .rows .now)) (i .before .if1 .left) (i .if2 .taken)
 
 returns-3 : tie.Need-returns-3
 returns-3 c =
     let u = c .before .before in let i = u .before .before in let a = i .before .before .before .before .args in
-    u .connections .ensures ∙ listed-connections (a .word) (a .place) (stateOf (a .text .now) (a .reading) (a .rows .now)) (i .before .if1 .left) (i .if2 .left)
+    u .connections .ensures ∙ listed-connections (a .word) (a .place)
+    (stateOf (a .text .now) (a .reading) (a .rows .now)) (i .before .if1 .left) (i .if2 .left)
 
 pub listed-spec : {M : Type 1} → statement M
 listed-spec =
     tie.close
-    (tie.spec (λ c κs. search needs) (λ c. search needs) returns (λ c κs. search needs) (λ c. search needs) returns-2 (λ c κs. search needs) (λ c. search needs) returns-3)
+    (tie.spec (λ c κs. search needs) (λ c. search needs) returns (λ c κs. search needs)
+    (λ c. search needs) returns-2 (λ c κs. search needs) (λ c. search needs) returns-3)

@@ -22,10 +22,12 @@ returns-2 c =
 
 returns-3 : tie.Need-returns-3
 returns-3 c =
-    let u = c .before .before .before in let v = u .before in let g = v .before .before in let i = g .before .before in let a = i .before .before .args in
+    let u = c .before .before .before in let v = u .before in let g = v .before .before in
+    let i = g .before .before in let a = i .before .before .args in
     λ m. let s = stateOf (a .text .now) (a .reading) m in
     let e : stateOf (a .text .now) (v .with-props .result) m ≡ fresh s = rw (v .with-props .ensures) in
-    let f : stateOf (a .text .now) (u .properties-in2 .result) m ≡ does (fresh s) (propertiesIn ofThread) = u .properties-in2 .ensures m ∙ ap (λ (t : State). does t (propertiesIn ofThread)) e in
+    let f : stateOf (a .text .now) (u .properties-in2 .result) m ≡ does (fresh s) (propertiesIn ofThread) =
+    u .properties-in2 .ensures m ∙ ap (λ (t : State). does t (propertiesIn ofThread)) e in
     rw (c .with-props2 .ensures, c .before .merged .ensures)
     (ap (λ (t : State). withProps (merged (s .props) (t .props)) t) f
     ∙ does-adding s (propertiesIn ofThread) (rw (g .enum-told .given .1)) ∙ properties-added (a .of) s (i .if1 .left))
@@ -33,4 +35,5 @@ returns-3 c =
 pub properties-of-spec : {M : Type 1} → statement M
 properties-of-spec =
     tie.close
-    (tie.spec (λ c κs. search needs) returns (λ c. search needs) (λ c. search needs) returns-2 (λ c κs. search needs) (λ c κs. search needs) (λ c κs. search needs) (λ c κs. search needs) returns-3)
+    (tie.spec (λ c κs. search needs) returns (λ c. search needs) (λ c. search needs) returns-2 (λ c κs. search needs)
+    (λ c κs. search needs) (λ c κs. search needs) (λ c κs. search needs) returns-3)

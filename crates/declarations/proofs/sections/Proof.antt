@@ -10,7 +10,8 @@ use Rattle.declarations.proofs.sections.Statement.{statement}
 use Rattle.declarations.proofs.sections.Tie as tie
 
 abbrev Inv-loop : tie.InvT-loop
-Inv-loop text rows₀ of place r₀ rows r = (does (stateOf text r rows) (repeat (begins of) (section of place)) ≡ does (stateOf text r₀ rows₀) (repeat (begins of) (section of place))) × (length rows ≡ length rows₀)
+Inv-loop text rows₀ of place r₀ rows r = (does (stateOf text r rows) (repeat (begins of) (section of place))
+    ≡ does (stateOf text r₀ rows₀) (repeat (begins of) (section of place))) × (length rows ≡ length rows₀)
 
 abbrev μ-loop : tie.MeasureT-loop
 μ-loop text rows₀ of place r₀ rows r = size (lift text (r .went))
@@ -57,4 +58,5 @@ pub sections-spec : {M : Type 1} → statement M
 unfolding sections
 sections-spec =
     tie.close
-    (tie.spec Inv-loop μ-loop loop-holds (λ c κs. search needs) (λ c κs. search needs) (λ c κs. search needs) loop-less loop-again same-length returns)
+    (tie.spec Inv-loop μ-loop loop-holds (λ c κs. search needs) (λ c κs. search needs)
+    (λ c κs. search needs) loop-less loop-again same-length returns)

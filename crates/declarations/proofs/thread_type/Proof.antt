@@ -25,9 +25,11 @@ returns c =
     let behind : stateOf p (b .on .result) m ≡ does s (quiet typeHead) =
     rw (b .on .ensures, b .before .maybe-extends .ensures, v .name .ensures, y .symbol .ensures, type-head-then (s .went)) (does-quiet s typeHead) in
     let inner = stateOf p (x .sections .result) l in
-    let ended : stateOf p (o .on2 .result) l ≡ does inner (quiet (typeEnd k)) = rw (o .on2 .ensures, o .before .type-end .ensures) (does-quiet inner (typeEnd k)) in
+    let ended : stateOf p (o .on2 .result) l ≡ does inner (quiet (typeEnd k)) =
+    rw (o .on2 .ensures, o .before .type-end .ensures) (does-quiet inner (typeEnd k)) in
     u .put .ensures p row refl
-    ∙ ap (λ (t : State). does t (put row)) (ended ∙ ap (λ (t : State). does t (quiet (typeEnd k))) (x .sections .ensures ∙ ap (λ (t : State). does t (sections aType n)) behind))
+    ∙ ap (λ (t : State). does t (put row)) (ended ∙ ap (λ (t : State). does t (quiet (typeEnd k)))
+    (x .sections .ensures ∙ ap (λ (t : State). does t (sections aType n)) behind))
     ∙ type-does s k n e (rw (v .before .start-of .ensures, y .symbol .ensures))
     (rw (g .start-of2 .ensures, g .before .scopes .ensures, g .before .before .symbol2 .ensures, v .name .ensures, y .symbol .ensures))
     (λ h. rw (v .before .start-of .ensures) (token-there p (y .symbol .result) (rw (y .symbol .ensures) h)) ∙ ap first (y .symbol .ensures))
@@ -36,4 +38,7 @@ pub thread-type-spec : {M : Type 1} → statement M
 unfolding typeRow
 thread-type-spec =
     tie.close
-    (tie.spec (λ c κs. search needs) (λ c κs. search needs) (λ c κs. search needs) (λ c κs. search needs) (λ c κs. search needs) (λ c κs. search needs) (λ c κs. search needs) (λ c κs. search needs) (λ c κs. search needs) (λ c κs. search needs) (λ c κs. search needs) (λ c. search needs) (λ c. search needs) (λ c. search needs) (λ c. search needs) (λ c κs. search needs) (λ c. search needs) returns)
+    (tie.spec (λ c κs. search needs) (λ c κs. search needs) (λ c κs. search needs) (λ c κs. search needs) (λ c κs. search needs)
+    (λ c κs. search needs) (λ c κs. search needs) (λ c κs. search needs) (λ c κs. search needs) (λ c κs. search needs)
+    (λ c κs. search needs) (λ c. search needs) (λ c. search needs) (λ c. search needs)
+    (λ c. search needs) (λ c κs. search needs) (λ c. search needs) returns)

@@ -10,7 +10,8 @@ use Rattle.declarations.proofs.type_end.Tie as tie
 returns : tie.Need-returns
 returns c =
     let b = c .before .before in let a = b .before .before .args in
-    rw (c .symbol2 .ensures, c .before .own .ensures, b .symbol .ensures) (type-end-then (head (from (a .text .now) (a .named))) (lift (a .text .now) (a .went)))
+    rw (c .symbol2 .ensures, c .before .own .ensures, b .symbol .ensures)
+    (type-end-then (head (from (a .text .now) (a .named))) (lift (a .text .now) (a .went)))
 
 pub type-end-spec : {M : Type 1} → statement M
 type-end-spec =

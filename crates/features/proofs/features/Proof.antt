@@ -13,7 +13,8 @@ use Rattle.features.proofs.features.Statement.{statement}
 use Rattle.features.proofs.features.Tie as tie
 
 abbrev Inv-loop : tie.InvT-loop
-Inv-loop text rows₀ owner r₀ rows r = (does (stateOf text r rows) (repeat named (feature owner)) ≡ does (stateOf text r₀ rows₀) (repeat named (feature owner))) × (length rows ≡ length rows₀)
+Inv-loop text rows₀ owner r₀ rows r = (does (stateOf text r rows) (repeat named (feature owner))
+    ≡ does (stateOf text r₀ rows₀) (repeat named (feature owner))) × (length rows ≡ length rows₀)
 
 abbrev μ-loop : tie.MeasureT-loop
 μ-loop text rows₀ owner r₀ rows r = size (lift text (r .went))
@@ -60,4 +61,5 @@ pub features-spec : {M : Type 1} → statement M
 unfolding features
 features-spec =
     tie.close
-    (tie.spec Inv-loop μ-loop loop-holds (λ c κs. search needs) (λ c κs. search needs) (λ c κs. search needs) loop-less loop-again same-length returns)
+    (tie.spec Inv-loop μ-loop loop-holds (λ c κs. search needs) (λ c κs. search needs)
+    (λ c κs. search needs) loop-less loop-again same-length returns)

@@ -15,7 +15,8 @@ use Rattle.features.proofs.port.Tie as tie
 returns : tie.Need-returns
 unfolding portRow
 returns c =
-    let u = c .before .before in let w = u .before .before .before in let h = w .before .before in let g = h .before .before in let a = g .before .before .before .args in
+    let u = c .before .before in let w = u .before .before .before in let h = w .before .before in
+    let g = h .before .before in let a = g .before .before .before .args in
     let o = a .owner in let n = a .named in let p = a .text .now in let m = a .rows .now in let s = stateOf p (a .reading) m in
     u .put .ensures p (λ (qs : List ℕ). portRow o n (g .direction-of .result) qs) refl
     ∙ ap (λ (t : State). does t (put (λ (qs : List ℕ). portRow o n (g .direction-of .result) qs)))
@@ -27,4 +28,5 @@ pub port-spec : {M : Type 1} → statement M
 unfolding portRow
 port-spec =
     tie.close
-    (tie.spec (λ c κs. search needs) (λ c κs. search needs) (λ c κs. search needs) (λ c κs. search needs) (λ c κs. search needs) (λ c. search needs) (λ c κs. search needs) (λ c. search needs) returns)
+    (tie.spec (λ c κs. search needs) (λ c κs. search needs) (λ c κs. search needs) (λ c κs. search needs)
+    (λ c κs. search needs) (λ c. search needs) (λ c κs. search needs) (λ c. search needs) returns)

@@ -1,12 +1,13 @@
 -- `feed::feed`: the lines that end in the block take their turns. Both arms start from the frame of a line, and show only that what
--- they did is the turn of the line's bytes; that the loop goes on from there is said once for both.
+-- they did is the turn of the line's bytes; that the loop goes on from there is said once for both. The loop's desk is the one with the
+-- columns that lie beside it.
 use Rattle.common.specs.Words.{needs, arith, List, _≡_, refl, sym, _∙_, ℕ, _+_, _-_, _<_, _≤_, length, take, length-take}
 use borrow.Rule.Slice.PartMut.{midOf, putMid}
 use mir.Syntax.{w64}
 use mir.Val.{Fits}
+use Rattle.console.specs.declared.Desk.{Desk}
 use Rattle.console.specs.Desk.{withState}
-use Rattle.console.specs.Turns.{frame-taken}
-use Rattle.console.specs.Parts.{called}
+use Rattle.console.specs.CallLines.{stateOf, call-taken, table-taken}
 use Rattle.lines.specs.Ends.{end-past}
 use Rattle.feed.specs.Feed.{enough}
 use Rattle.feed.specs.Outcome.{worldOf, fedFrom}
@@ -16,16 +17,18 @@ use Rattle.feed.proofs.feed.Statement.{statement}
 use Rattle.feed.proofs.feed.Tie as tie
 
 abbrev Inv-loop : tie.InvT-loop
-Inv-loop memory₀ held₀ used piece from out₀ d₀ u₀ at₀ w₀ memory held out d u at w =
-    Underway (fedFrom (worldOf d₀ memory₀) held₀ used piece from out₀) piece from held₀ out₀ memory held out d u at w
+Inv-loop memory₀ held₀ used piece from out₀ d₀ tick₀ sent₀ reading₀ u₀ at₀ w₀ memory held out d tick sent reading u at w =
+    Underway (fedFrom (worldOf d₀ memory₀) held₀ used piece from out₀) piece from held₀ out₀ memory held out
+    (withState d (stateOf tick sent reading)) u at w
     × (length memory ≡ length memory₀)
 
 abbrev μ-loop : tie.MeasureT-loop
-μ-loop memory₀ held₀ used piece from out₀ d₀ u₀ at₀ w₀ memory held out d u at w = length piece - at
+μ-loop memory₀ held₀ used piece from out₀ d₀ tick₀ sent₀ reading₀ u₀ at₀ w₀ memory held out d tick sent reading u at w = length piece - at
 
 loop-holds : tie.Need-loop-holds Inv-loop μ-loop
+unfolding withState
 loop-holds c =
-    let k = c .before .before .before .before in
+    let k = c .before .before .before .before .before .before .before .before in
     let a = k .args in
     let p = k .pre in
     (underway-first (a .piece .now) (a .from) (a .memory .now) (a .held .now) (a .out .now) (a .desk) (a .used) (p .2) (p .0) (p .1) (p .3), refl)
@@ -37,7 +40,7 @@ module _ (e : tie.After-end-of Inv-loop μ-loop) where
   here = e .before .before
 
   abbrev start : tie.Start Inv-loop μ-loop
-  start = here .before .before .before .before .before
+  start = here .before .before .before .before .before .before .before .before .before
 
   abbrev piece : List ℕ
   piece = start .args .piece .now
@@ -48,10 +51,17 @@ module _ (e : tie.After-end-of Inv-loop μ-loop) where
 -- no line ends
 returns : tie.Need-returns Inv-loop μ-loop
 returns c =
-    let k = c .before .before .before in
+    let k = c .before .before .before .before in
     let e = k .before .before .before .before in
     let l = here e .loop in
-    rw (c .so-far .ensures, k .keep .ensures .0, k .keep .ensures .1, e .end-of .ensures, part-rest (piece e) (l .at))
+    rw (
+      c .so-far .ensures,
+      c .before .desk-with .ensures,
+      k .keep .ensures .0,
+      k .keep .ensures .1,
+      e .end-of .ensures,
+      part-rest (piece e) (l .at),
+    )
     (turn-tail (l .inv .0) (e .before .loop-test .taken) (rw (e .end-of .ensures) at (k .before .before .before .if1 .taken)), l .inv .0 .sound)
 
 bytes-until-requires : tie.Need-bytes-until-requires Inv-loop μ-loop
@@ -69,10 +79,13 @@ module _ (k : tie.After-frame-of Inv-loop μ-loop) where
   abbrev turn : tie.At-loop Inv-loop μ-loop
   turn = here ended
 
+  abbrev desk : Desk
+  desk = withState (turn .loop .d) (stateOf (turn .loop .tick) (turn .loop .sent) (turn .loop .reading))
+
   -- what an arm shows
   abbrev Arm : Type 0
   Arm =
-      Turned (turn .loop .d) (turn .loop .memory) (take (line .bytes-until .result) (line .bytes-until .last .1 .1 .1 .1 .1 .0))
+      Turned desk (turn .loop .memory) (take (line .bytes-until .result) (line .bytes-until .last .1 .1 .1 .1 .1 .0))
       (turn .loop .out) (turn .loop .w)
 
   end-inside : ended .end-of .result < length (piece ended)
@@ -86,9 +99,11 @@ module _ (k : tie.After-frame-of Inv-loop μ-loop) where
 
   again :
       (x : Arm) → let a = start ended .args in
-      Inv-loop (a .memory .now) (a .held .now) (a .used) (a .piece .now) (a .from) (a .out .now) (a .desk) (a .used) (a .from) 0
-      (x .memory′) (line .bytes-until .last .0) (putMid (turn .loop .w) (length (turn .loop .out) - turn .loop .w) (turn .loop .out) (x .after))
+      Underway (fedFrom (worldOf (a .desk) (a .memory .now)) (a .held .now) (a .used) (a .piece .now) (a .from) (a .out .now)) (a .piece .now)
+      (a .from) (a .held .now) (a .out .now) (x .memory′) (line .bytes-until .last .0)
+      (putMid (turn .loop .w) (length (turn .loop .out) - turn .loop .w) (turn .loop .out) (x .after))
       (x .result .desk) 0 (ended .end-of .result + 1) (turn .loop .w + x .result .written)
+      × (length (x .memory′) ≡ length (a .memory .now))
   again x = (
     turn-step (turn .loop .inv .0) x _ (ended .before .loop-test .taken) (ended .end-of .ensures) end-inside (line .bytes-until .ensures .1) refl
         (k .before .before .before .before .held2 .given),
@@ -103,59 +118,78 @@ add-at k = omega (arith, end-inside k, start (ended k) .good .1 .1 .1 .1 .0 .0)
 
 -- ## A call: 04, 05, or a frame that means nothing
 
-abbrev call-frame : tie.After-spot-for Inv-loop μ-loop → tie.After-frame-of Inv-loop μ-loop
-call-frame o = o .before .before .before .before .before .before
-
 call-line-requires : tie.Need-call-line-requires Inv-loop μ-loop
+unfolding withState
 call-line-requires c κs =
-    let o = c .before .before .before .before .before .before .before .before .before .before .before in
-    (rw (o .spot-for .ensures .0) (turn (call-frame o) .loop .inv .0 .sound .sound), room (call-frame o))
+    let k = c .before .before .before .before .before .before .before .before .before .before .before .before .before .before .before in
+    (λ runs. sym (turn k .loop .inv .0 .sound .sound runs), room k)
 
 module _ (c : tie.After-struct-known Inv-loop μ-loop) where
-  abbrev called-line : tie.After-call-line Inv-loop μ-loop
-  called-line = c .before .before .before .before .before .before .before .before .before .before
+  abbrev called : tie.After-call-line Inv-loop μ-loop
+  called = c .before .before .before .before .before .before
 
-  abbrev spot : tie.After-spot-for Inv-loop μ-loop
-  spot = called-line .before .before .before .before .before .before .before .before .before .before .before .before
+  abbrev call-frame : tie.After-frame-of Inv-loop μ-loop
+  call-frame = called .before .before .before .before .before .before .before .before .before .before .before .before .before .before .before .before
 
-  abbrev call-arm : Arm (call-frame spot)
+  call-arm : Arm call-frame
+  unfolding withState
   call-arm =
-      let i = spot .before .before .before .before in
-      let p = called-line .before .before in
-      let e = spot .spot-for .ensures in
+      let i = called .before .before .before .before .before .before .before .before .before .before .before .before .before .before in
       record {
-        result = called _ (call-frame spot .frame-of .result) (called-line .call-line .result);
+        result = _;
         memory′ = _;
         after = _;
-        same-size = c .before .before .before .before .before .before .before .before .before .memory .given;
+        same-size = c .before .before .before .before .before .memory .given;
         takes =
-            frame-taken _ _ _ _ (call-frame spot .frame-of .ensures) (p .payload-in .ensures)
-            (called-line .call-line .ensures _ (record { running = sym (e .0); plan = refl; tick = sym (e .1); entry = e .2 })
-            (sym (i .before .from-parts .ensures) ∙ i .if2 .taken));
+            call-taken (desk call-frame) _ _ _ (call-frame .frame-of .ensures) (i .before .is-call .ensures)
+            (called .before .before .payload-in .ensures) (i .if2 .taken) (called .call-line .ensures);
       }
 
--- with the entry and the reading place stored
+add-w : tie.Need-add-w Inv-loop μ-loop
+unfolding call-arm
+add-w c = fits (call-frame c) (call-arm c)
+
 loop-again : tie.Need-loop-again Inv-loop μ-loop
-unfolding withState
-loop-again c = rw (c .before .put-place .ensures, c .before .before .before .put-entry .ensures) (again (call-frame (spot c)) (call-arm c))
+unfolding withState call-arm
+loop-again c = again (call-frame c) (call-arm c)
 
 -- ## A frame that changes the desk as a whole
 
 module _ (c : tie.After-struct-known2 Inv-loop μ-loop) where
-  abbrev act-frame : tie.After-frame-of Inv-loop μ-loop
-  act-frame = c .before .before .before .before .before .before .before .before .before .before .before .before
+  abbrev set : tie.After-set-table Inv-loop μ-loop
+  set = c .before .before .before .before .before .before .before .before .before .before
 
-  abbrev act-arm : Arm act-frame
-  act-arm =
-      let m = c .before .before .before .before .before in
-      record { result = m .before .act .result; memory′ = _; after = _; same-size = m .memory2 .given; takes = m .before .act .ensures }
+  abbrev table-frame : tie.After-frame-of Inv-loop μ-loop
+  table-frame = set .before .before .before .before .before .before
+
+  table-arm : Arm table-frame
+  table-arm =
+      let i = set .before .before .before .before in
+      record {
+        result = set .set-table .result;
+        memory′ = _;
+        after = _;
+        same-size = c .before .before .before .before .before .before .before .before .before .memory2 .given;
+        takes =
+            table-taken (desk table-frame) _ _ _ (table-frame .frame-of .ensures) (i .before .is-call .ensures)
+            (set .before .before .before .desk-with2 .ensures) (i .if2 .left) (set .set-table .ensures);
+      }
+
+add-w-2 : tie.Need-add-w-2 Inv-loop μ-loop
+unfolding table-arm
+add-w-2 c = fits (table-frame c) (table-arm c)
+
+loop-again-2 : tie.Need-loop-again-2 Inv-loop μ-loop
+unfolding withState table-arm
+loop-again-2 c = again (table-frame c) (table-arm c)
 
 -- ## The room is short
 
 returns-2 : tie.Need-returns-2 Inv-loop μ-loop
 returns-2 c =
-    let l = c .before .before .loop in
-    rw (c .so-far2 .ensures) (turn-short (l .inv .0) (c .before .loop-test .left), l .inv .0 .sound)
+    let o = c .before .before in
+    let l = o .before .loop in
+    rw (c .so-far2 .ensures, c .before .desk-with3 .ensures) (turn-short (l .inv .0) (o .loop-test .left), l .inv .0 .sound)
 
 pub feed-spec : {M : Type 1} → statement M
 feed-spec =
@@ -164,14 +198,17 @@ feed-spec =
     Inv-loop μ-loop loop-holds
     (λ c. search needs) (λ c κs. search needs)
     (λ c. search needs) (λ c. search needs) (λ c. search needs) (λ c κs. search needs)
-    (λ c κs. search needs) (λ c. search needs) (λ c. search needs) (λ c. search needs) returns
+    (λ c κs. search needs) (λ c κs. search needs) (λ c. search needs)
+    (λ c. let h = c .before .before .before .held .given in let l = here (c .before .before .before .before .before .before .before .before) .loop .inv .0 .held-size in search needs)
+    (λ c. here (c .before .before .before .before .before .before .before .before) .loop .inv .0 .stored .size) returns
     (λ c. search needs) bytes-until-requires
     (λ c. search needs) (λ c. simp length-take (omega (arith, c .before .before .before .before .bytes-until .ensures .0))) (λ c κs. search needs)
-    add-at (λ c κs. search needs) (λ c κs. search needs)
-    (λ c. search needs) (λ c. simp length-take (omega (arith, line (call-frame (c .before .before .before .before .before .before .before .before .before)) .bytes-until .ensures .0))) (λ c κs. search needs)
-    (λ c. search needs) (λ c. search needs) (λ c. search needs) call-line-requires (λ c κs. search needs) (λ c κs. search needs)
-    (λ c. fits (call-frame (spot c)) (call-arm c)) (λ c. less (call-frame (spot c))) loop-again
-    (λ c. search needs) (λ c. simp length-take (omega (arith, line (c .before .before .before .before) .bytes-until .ensures .0)))
-    (λ c. search needs) (λ c. search needs) (λ c. search needs) (λ c κs. search needs)
-    (λ c. fits (act-frame c) (act-arm c)) (λ c. less (act-frame c)) (λ c. again (act-frame c) (act-arm c))
-    (λ c κs. search needs) (λ c. search needs) (λ c. search needs) (λ c. search needs) returns-2)
+    add-at (λ c κs. search needs)
+    (λ c. search needs) (λ c. simp length-take (omega (arith, line (c .before .before .before .before .before .before .before .before .before .before .before .before .before) .bytes-until .ensures .0)))
+    (λ c κs. search needs)
+    (λ c. search needs) (λ c. search needs) (λ c. search needs) call-line-requires
+    add-w (λ c. less (call-frame c)) loop-again
+    (λ c κs. search needs)
+    (λ c. search needs) (λ c. search needs) (λ c. search needs) (λ c κs. room (c .before .before .before .before .before))
+    add-w-2 (λ c. less (table-frame c)) loop-again-2
+    (λ c κs. search needs) (λ c κs. search needs) (λ c. search needs) (λ c. search needs) (λ c. search needs) returns-2)

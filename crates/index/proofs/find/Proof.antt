@@ -8,7 +8,8 @@ returns : tie.Need-returns
 returns c =
     let b = c .before .before .before .before .before .before in
     let a = b .args in
-    c .wide .ensures .0 ∙ ap (λ (s : ℕ). getD (a .tree .now) s 0) (c .before .before .slot-of .ensures .0) ∙ b .pre .sound .finds (meant (a .text .now) (a .key))
+    c .wide .ensures .0 ∙ ap (λ (s : ℕ). getD (a .tree .now) s 0) (c .before .before .slot-of .ensures .0)
+    ∙ b .pre .sound .finds (meant (a .text .now) (a .key))
 
 pub find-spec : {M : Type 1} → statement M
 find-spec =

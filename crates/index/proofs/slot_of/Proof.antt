@@ -36,8 +36,11 @@ returns c =
     let w = c .before .before .before in
     let l = w .before .before .before .before in
     let b = l .before .before .before .before .before in
-    let found = sym (rw (c .before .before .key-at .ensures) at (c .before .same-key .ensures)) ∙ c .if2 .taken in
-    (search-here (b .pre) (l .loop .inv .0) (w .wide .ensures .0) (some _ _ (w .wide .ensures .0) (w .before .before .if1 .taken)) found, l .loop .inv .1)
+    let found = sym (rw (c .before .before .key-at .ensures) at (c .before .same-key .ensures)) ∙ c .if2 .taken in (
+      search-here (b .pre) (l .loop .inv .0) (w .wide .ensures .0)
+          (some _ _ (w .wide .ensures .0) (w .before .before .if1 .taken)) found,
+      l .loop .inv .1,
+    )
 
 loop-less : tie.Need-loop-less Inv-loop μ-loop
 loop-less c =
@@ -65,4 +68,5 @@ pub slot-of-spec : {M : Type 1} → statement M
 slot-of-spec =
     tie.close
     (tie.spec Inv-loop μ-loop (λ c κs. search needs) loop-holds (λ c. search needs) (λ c. search needs) (λ c. search needs) (λ c. search needs)
-    (λ c κs. search needs) sub-key-at key-at-requires (λ c κs. search needs) returns (λ c. search needs) (λ c. search needs) loop-less loop-again returns-2)
+    (λ c κs. search needs) sub-key-at key-at-requires (λ c κs. search needs) returns
+    (λ c. search needs) (λ c. search needs) loop-less loop-again returns-2)

@@ -9,7 +9,13 @@ unfolding meant lanesOf hashOf
 returns c =
     let k = c .before .before in
     let n = k .before .before in
-    rw (k .stir-name3 .ensures .0, k .before .stir-name2 .ensures .0, n .stir-name .ensures .0, n .before .stir2 .ensures .0, n .before .before .stir .ensures .0)
+    rw (
+      k .stir-name3 .ensures .0,
+      k .before .stir-name2 .ensures .0,
+      n .stir-name .ensures .0,
+      n .before .stir2 .ensures .0,
+      n .before .before .stir .ensures .0,
+    )
 
 pub hash-of-spec : {M : Type 1} → statement M
 hash-of-spec =

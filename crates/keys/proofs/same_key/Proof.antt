@@ -20,7 +20,11 @@ returns-3 c = search (tests, failed (c .before .same-name .ensures) (c .if3 .tak
 returns-4 : tie.Need-returns-4
 unfolding meant sameMeaning
 returns-4 c =
-    search (tests, passed (c .before .before .before .same-name .ensures) (c .before .before .if3 .left), failed (c .before .same-name2 .ensures) (c .if4 .taken))
+    search (
+      tests,
+      passed (c .before .before .before .same-name .ensures) (c .before .before .if3 .left),
+      failed (c .before .same-name2 .ensures) (c .if4 .taken),
+    )
 
 returns-5 : tie.Need-returns-5
 unfolding meant sameMeaning

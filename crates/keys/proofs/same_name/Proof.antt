@@ -19,14 +19,16 @@ returns-2 : tie.Need-returns-2 Inv-loop μ-loop
 returns-2 c =
     let l = c .before .before .before .before in
     let p = l .before .before .before .args .text .now in
-    sym (same-apart p (l .loop .i) (l .loop .j) (rw (← c .before .before .letter-at .ensures, ← c .before .letter-at2 .ensures) (c .if2 .taken))) ∙ l .loop .inv
+    sym (same-apart p (l .loop .i) (l .loop .j) (rw (← c .before .before .letter-at .ensures, ← c .before .letter-at2 .ensures)
+    (c .if2 .taken))) ∙ l .loop .inv
 
 returns-3 : tie.Need-returns-3 Inv-loop μ-loop
 returns-3 c =
     let l = c .before .before .before .before .before in
     let p = l .before .before .before .args .text .now in
     let none : nameByte (getD p (l .loop .i) 0) ≡ 0 = sym (c .before .before .before .letter-at .ensures) ∙ c .if3 .taken in
-    let too : nameByte (getD p (l .loop .j) 0) ≡ 0 = sym (c .before .before .letter-at2 .ensures) ∙ sym (c .before .if2 .left) ∙ c .if3 .taken in
+    let too : nameByte (getD p (l .loop .j) 0) ≡ 0 = sym (c .before .before .letter-at2 .ensures)
+    ∙ sym (c .before .if2 .left) ∙ c .if3 .taken in
     sym (same-none p (l .loop .i) (l .loop .j) none ∙ eq-eqb _ 0 too) ∙ l .loop .inv
 
 add-j : tie.Need-add-j Inv-loop μ-loop

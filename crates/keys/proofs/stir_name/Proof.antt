@@ -39,5 +39,6 @@ returns-2 c =
 pub stir-name-spec : {M : Type 1} → statement M
 stir-name-spec =
     tie.close
-    (tie.spec Inv-loop μ-loop (λ c. (refl, search needs)) (λ c. search needs) (λ c κs. search needs) (λ c κs. search needs) returns (λ c κs. search needs)
+    (tie.spec Inv-loop μ-loop (λ c. (refl, search needs)) (λ c. search needs)
+    (λ c κs. search needs) (λ c κs. search needs) returns (λ c κs. search needs)
     (λ c κs. search needs) (λ c. search needs) (λ c. search needs) loop-again (λ c κs. search needs) returns-2)

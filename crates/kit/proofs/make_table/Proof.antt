@@ -9,7 +9,14 @@ unfolding tableOf
 returns c =
     let t = c .before .before in
     let q = t .before .before in
-    rw (c .senders .ensures, c .before .receivers .ensures, t .times2 .ensures, t .before .times .ensures, q .queues .ensures, q .before .threads .ensures)
+    rw (
+      c .senders .ensures,
+      c .before .receivers .ensures,
+      t .times2 .ensures,
+      t .before .times .ensures,
+      q .queues .ensures,
+      q .before .threads .ensures,
+    )
     refl
 
 pub make-table-spec : {M : Type 1} → statement M

@@ -34,7 +34,8 @@ returns-2 c =
     let a = b .args in
     let rows = rowsIn (a .count) (a .rows .now) in
     let e = c .before .before .before in
-    rw (c .before .thread-named .ensures .0, e .cell2 .ensures, e .before .cell .ensures, rows-are (threadsOf rows) (b .pre .1)) at (c .position .ensures)
+    rw (c .before .thread-named .ensures .0, e .cell2 .ensures, e .before .cell .ensures, rows-are (threadsOf rows) (b .pre .1))
+    at (c .position .ensures)
     ∙ at-there (queuesOf (a .text .now) rows) (b .pre .2) (receiverOf (a .text .now) rows) 0 (a .j) (search needs) (e .before .before .if1 .left)
 
 pub receiver-at-spec : {M : Type 1} → statement M

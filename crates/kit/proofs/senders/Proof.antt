@@ -8,7 +8,8 @@ use Rattle.kit.proofs.senders.Tie as tie
 
 abbrev Inv-loop : tie.InvT-loop
 Inv-loop text rows connected count threads queues out₀ c₀ out c =
-    (c ≤ 128) × (length out ≡ 128) × (take c out ≡ table (sendsAt text (rowsIn count rows) (threadsOf (rowsIn count rows)) (queuesOf text (rowsIn count rows))) c)
+    (c ≤ 128) × (length out ≡ 128)
+    × (take c out ≡ table (sendsAt text (rowsIn count rows) (threadsOf (rowsIn count rows)) (queuesOf text (rowsIn count rows))) c)
 
 abbrev μ-loop : tie.MeasureT-loop
 μ-loop text rows connected count threads queues out₀ c₀ out c = 128 - c

@@ -50,4 +50,5 @@ returns-3 c =
 
 pub sends-at-spec : {M : Type 1} → statement M
 sends-at-spec =
-    tie.close (tie.spec returns returns-2 (λ c. search needs) (λ c. search needs) (λ c. search needs) (λ c. search needs) joins-requires returns-3)
+    tie.close (tie.spec returns returns-2 (λ c. search needs) (λ c. search needs)
+    (λ c. search needs) (λ c. search needs) joins-requires returns-3)

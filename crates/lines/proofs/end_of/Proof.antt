@@ -1,6 +1,7 @@
 -- `lines::end_of`: every byte passed is no line feed.
 use Rattle.common.specs.Words.{needs, _≡_, sym, _∙_, _-_, length}
 use Rattle.lines.specs.Ends.{endOf, end-none, end-here, end-next}
+use Rattle.lines.specs.Strides.{skip-ends}
 use Rattle.lines.proofs.end_of.Statement.{statement}
 use Rattle.lines.proofs.end_of.Tie as tie
 
@@ -10,6 +11,9 @@ Inv-loop piece from i₀ i = endOf piece i ≡ endOf piece from
 
 abbrev μ-loop : tie.MeasureT-loop
 μ-loop piece from i₀ i = length piece - i
+
+loop-holds : tie.Need-loop-holds Inv-loop μ-loop
+loop-holds c = rw (c .skip .ensures) (skip-ends _ _)
 
 returns : tie.Need-returns Inv-loop μ-loop
 returns c =
@@ -33,7 +37,7 @@ end-of-spec =
     Inv-loop
     μ-loop
     (λ c κs. search needs)
-    (λ c. search needs)
+    loop-holds
     (λ c. search needs)
     returns
     (λ c. search needs)

@@ -7,7 +7,8 @@ use Rattle.lines.proofs.keep.Statement.{statement}
 use Rattle.lines.proofs.keep.Tie as tie
 
 abbrev Inv-loop : tie.InvT-loop
-Inv-loop held₀ used xs n k₀ held k = (k ≤ n) × (n ≡ min (kept - used) (length xs)) × (length held ≡ length held₀) × (held ≡ sets held₀ used (take k xs))
+Inv-loop held₀ used xs n k₀ held k =
+    (k ≤ n) × (n ≡ min (kept - used) (length xs)) × (length held ≡ length held₀) × (held ≡ sets held₀ used (take k xs))
 
 abbrev μ-loop : tie.MeasureT-loop
 μ-loop held₀ used xs n k₀ held k = n - k
@@ -22,8 +23,11 @@ unfolding heldOf
 returns c =
     let a = c .before .before .before .before .before .args in
     let l = c .before .loop in
-    let e : l .k ≡ min (kept - a .used) (length (a .xs .now)) = search needs in
-    (search needs, l .inv .3 ∙ ap (λ xs. sets (a .held .now) (a .used) xs) (ap (λ k. take k (a .xs .now)) e ∙ take-least (kept - a .used) (a .xs .now)))
+    let e : l .k ≡ min (kept - a .used) (length (a .xs .now)) = search needs in (
+      search needs,
+      l .inv .3 ∙ ap (λ xs. sets (a .held .now) (a .used) xs)
+          (ap (λ k. take k (a .xs .now)) e ∙ take-least (kept - a .used) (a .xs .now)),
+    )
 
 pub keep-spec : {M : Type 1} → statement M
 keep-spec =

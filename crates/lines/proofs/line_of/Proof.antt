@@ -1,5 +1,5 @@
 -- `lines::line_of`: by whether a carry began the line.
-use Rattle.common.specs.Words.{needs, arith, drop, length-take, _≡_, sym, _+_, _-_, min, le-ltb}
+use Rattle.common.specs.Words.{needs, arith, drop, length-take, _≡_, refl, sym, _+_, _-_, min, le-ltb}
 use Rattle.lines.specs.Lines.{kept}
 use Rattle.lines.specs.Held.{cut-take}
 use Rattle.common.specs.Tests.{tests}
@@ -16,7 +16,7 @@ returns-2 : tie.Need-returns-2
 returns-2 c =
     let a = c .before .before .before .before .before .args in
     let e : a .from + c .before .least .result - a .from ≡ min kept (a .to - a .from) = search needs in
-    rw (e, le-ltb 0 (a .n) (c .before .before .if1 .left)) (sym (cut-take (a .to - a .from) (drop (a .from) (a .piece .now))))
+    rw (e, le-ltb 0 (a .n) (c .before .before .if1 .left)) (sym (cut-take (a .to - a .from) (drop (a .from) (a .piece .now))), refl)
 
 pub line-of-spec : {M : Type 1} → statement M
 line-of-spec =

@@ -9,5 +9,6 @@ pub begins-connection-spec : {M : Type 1} → statement M
 unfolding connectionKind
 begins-connection-spec =
     tie.close
-    (tie.spec (λ c. search tests) (λ c. search tests) (λ c. search tests) (λ c. search tests) (λ c. search tests) (λ c. search tests) (λ c. search tests)
+    (tie.spec (λ c. search tests) (λ c. search tests) (λ c. search tests) (λ c. search tests)
+    (λ c. search tests) (λ c. search tests) (λ c. search tests)
     (λ c. search tests) (λ c κs. search needs) (λ c. search tests))

@@ -14,18 +14,22 @@ returns c =
     let k = c .before .before .before in let a = k .before .before .before .before .before .before .args in
     let o = a .process in let n = a .named in let s = stateOf (a .text .now) (a .reading) (a .rows .now) in
     rw (c .on .ensures, c .before .word-and-rest .ensures)
-    (does-quiet s wordAndRest ∙ other-does o (a .start) n s (rw (← k .before .before .next .ensures, ← k .before .second .ensures, ← k .is-other-kind .ensures) (c .before .before .if1 .taken)))
+    (does-quiet s wordAndRest ∙ other-does o (a .start) n s
+    (rw (← k .before .before .next .ensures, ← k .before .second .ensures, ← k .is-other-kind .ensures) (c .before .before .if1 .taken)))
 
 returns-2 : tie.Need-returns-2
 returns-2 c =
-    let u = c .before .before .before in let v = u .before .before in let k = v .before .before in let a = k .before .before .before .before .before .before .args in
+    let u = c .before .before .before in let v = u .before .before in let k = v .before .before in
+    let a = k .before .before .before .before .before .before .args in
     let o = a .process in let n = a .named in let s = stateOf (a .text .now) (a .reading) (a .rows .now) in
     let e : stateOf (a .text .now) (v .with-props .result) (a .rows .now) ≡ fresh s = rw (v .with-props .ensures) in
     rw (c .with-props2 .ensures)
     (ap (withProps (s .props)) (u .link .ensures ∙ ap (λ (t : State). does t (link o (a .start) n)) e)
-    ∙ does-apart s (link o (a .start) n) ∙ between-does o (a .start) n s (rw (← k .before .before .next .ensures, ← k .before .second .ensures, ← k .is-other-kind .ensures) (v .before .if1 .left)))
+    ∙ does-apart s (link o (a .start) n) ∙ between-does o (a .start) n s
+    (rw (← k .before .before .next .ensures, ← k .before .second .ensures, ← k .is-other-kind .ensures) (v .before .if1 .left)))
 
 pub connection-of-spec : {M : Type 1} → statement M
 connection-of-spec =
     tie.close
-    (tie.spec (λ c κs. search needs) (λ c κs. search needs) (λ c κs. search needs) (λ c κs. search needs) (λ c κs. search needs) returns (λ c κs. search needs) (λ c κs. search needs) (λ c κs. search needs) (λ c. search needs) returns-2)
+    (tie.spec (λ c κs. search needs) (λ c κs. search needs) (λ c κs. search needs) (λ c κs. search needs)
+    (λ c κs. search needs) returns (λ c κs. search needs) (λ c κs. search needs) (λ c κs. search needs) (λ c. search needs) returns-2)

@@ -16,7 +16,8 @@ abbrev begins : List Token → Bool
 begins ts = connectionKind (next ts)
 
 abbrev Inv-loop : tie.InvT-loop
-Inv-loop text rows₀ process r₀ rows r = (does (stateOf text r rows) (repeat begins (connection process)) ≡ does (stateOf text r₀ rows₀) (repeat begins (connection process))) × (length rows ≡ length rows₀)
+Inv-loop text rows₀ process r₀ rows r = (does (stateOf text r rows) (repeat begins (connection process))
+    ≡ does (stateOf text r₀ rows₀) (repeat begins (connection process))) × (length rows ≡ length rows₀)
 
 abbrev μ-loop : tie.MeasureT-loop
 μ-loop text rows₀ process r₀ rows r = size (lift text (r .went))
@@ -41,7 +42,8 @@ loop-again c =
     let o = a .process in let s = stateOf (a .text .now) (l .loop .r) (l .loop .rows) in (
       rw (f .connection .ensures)
           (repeat-on begins (connection o) (advances-on begins (connection o) (connection-moves o)) s
-          (kind-on connectionKind (s .went) refl (rw (← k .before .next-of .ensures, ← k .begins-connection .ensures) (f .before .before .if1 .taken)))
+          (kind-on connectionKind (s .went) refl (rw (← k .before .next-of .ensures, ← k .begins-connection .ensures)
+          (f .before .before .if1 .taken)))
           ∙ l .loop .inv .0),
       search needs,
     )
@@ -63,4 +65,5 @@ pub connections-spec : {M : Type 1} → statement M
 unfolding connections
 connections-spec =
     tie.close
-    (tie.spec Inv-loop μ-loop loop-holds (λ c κs. search needs) (λ c κs. search needs) (λ c κs. search needs) loop-less loop-again same-length returns)
+    (tie.spec Inv-loop μ-loop loop-holds (λ c κs. search needs) (λ c κs. search needs)
+    (λ c κs. search needs) loop-less loop-again same-length returns)

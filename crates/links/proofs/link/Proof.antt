@@ -34,7 +34,14 @@ returns-2 c =
     rw (h .on .ensures, e .ends-of .ensures .went, ends-does (s .went)) (does-quiet s (λ us. ends (On us))) in
     let told : e .ends-of .result .pointed ≡ true = not-false _ (i .if1 .left) in
     u .put .ensures p item
-    (rw (v .timing-of .ensures, e .ends-of .ensures .sender, e .ends-of .ensures .out, e .ends-of .ensures .receiver, e .ends-of .ensures .into, e .ends-of .ensures .delayed))
+    (rw (
+      v .timing-of .ensures,
+      e .ends-of .ensures .sender,
+      e .ends-of .ensures .out,
+      e .ends-of .ensures .receiver,
+      e .ends-of .ensures .into,
+      e .ends-of .ensures .delayed,
+    ))
     ∙ ap (λ (t : State). does t (put item))
     (w .symbol-on .ensures m ∙ ap (λ (t : State). does t (quiet (the SEMICOLON))) (w .before .maybe-block-in .ensures m
     ∙ ap (λ (t : State). does t (maybeBlockIn ofPort)) behind))

@@ -37,15 +37,23 @@ returns-4 c =
     let w = x .before .before in
     let k = w .before .before in
     let l = c .if4 .taken in
-    simp (passed (k .before .sound .ensures) (k .if1 .left), lt-ltb _ _ (w .if2 .left), ne-eqb _ _ (x .if3 .left), rw (c .before .before .up-to .ensures) at (lt-ltb _ _ l))
+    simp (
+      passed (k .before .sound .ensures) (k .if1 .left),
+      lt-ltb _ _ (w .if2 .left),
+      ne-eqb _ _ (x .if3 .left),
+      rw (c .before .before .up-to .ensures) at (lt-ltb _ _ l),
+    )
 
 origin-of-requires : tie.Need-origin-of-requires
 origin-of-requires c κs =
     let x = c .before .before .before in
     let w = x .before .before in
     let k = w .before .before in
-    let a = k .before .before .args in
-    (usable (sound-iff (a .plan) .0 (passed (k .before .sound .ensures) (k .if1 .left))) (a .queue) (w .if2 .left), pos-of-ne-zero (x .if3 .left), rw (c .before .before .up-to .ensures) at (c .if4 .left))
+    let a = k .before .before .args in (
+      usable (sound-iff (a .plan) .0 (passed (k .before .sound .ensures) (k .if1 .left))) (a .queue) (w .if2 .left),
+      pos-of-ne-zero (x .if3 .left),
+      rw (c .before .before .up-to .ensures) at (c .if4 .left),
+    )
 
 returns-5 : tie.Need-returns-5
 unfolding originsOf
@@ -55,7 +63,12 @@ returns-5 c =
     let w = x .before .before in
     let k = w .before .before in
     rw (c .before .origin-of .ensures)
-    (simp (passed (k .before .sound .ensures) (k .if1 .left), lt-ltb _ _ (w .if2 .left), ne-eqb _ _ (x .if3 .left), rw (y .before .before .up-to .ensures) at (le-ltb _ _ (y .if4 .left))))
+    (simp (
+      passed (k .before .sound .ensures) (k .if1 .left),
+      lt-ltb _ _ (w .if2 .left),
+      ne-eqb _ _ (x .if3 .left),
+      rw (y .before .before .up-to .ensures) at (le-ltb _ _ (y .if4 .left)),
+    ))
 
 pub way-back-spec : {M : Type 1} → statement M
 way-back-spec =

@@ -33,16 +33,20 @@ first-number-requires : tie.Need-first-number-requires
 first-number-requires c κs =
     let w = c .before .before in
     let k = w .before .before in
-    let a = k .before .before .args in
-    (usable (sound-iff (a .plan) .0 (passed (k .before .sound .ensures) (k .if1 .left))) (a .queue) (w .if2 .left), ltb-false _ _ (sym (c .before .release-past .ensures) ∙ c .if3 .left))
+    let a = k .before .before .args in (
+      usable (sound-iff (a .plan) .0 (passed (k .before .sound .ensures) (k .if1 .left))) (a .queue) (w .if2 .left),
+      ltb-false _ _ (sym (c .before .release-past .ensures) ∙ c .if3 .left),
+    )
 
 last-number-requires : tie.Need-last-number-requires
 last-number-requires c κs =
     let r = c .before in
     let w = r .before .before in
     let k = w .before .before in
-    let a = k .before .before .args in
-    (usable (sound-iff (a .plan) .0 (passed (k .before .sound .ensures) (k .if1 .left))) (a .queue) (w .if2 .left), ltb-false _ _ (sym (r .before .release-past .ensures) ∙ r .if3 .left))
+    let a = k .before .before .args in (
+      usable (sound-iff (a .plan) .0 (passed (k .before .sound .ensures) (k .if1 .left))) (a .queue) (w .if2 .left),
+      ltb-false _ _ (sym (r .before .release-past .ensures) ∙ r .if3 .left),
+    )
 
 returns-4 : tie.Need-returns-4
 unfolding windowOf
@@ -50,7 +54,13 @@ returns-4 c =
     let r = c .before .before in
     let w = r .before .before in
     let k = w .before .before in
-    simp (c .last-number .ensures, c .before .first-number .ensures, passed (k .before .sound .ensures) (k .if1 .left), lt-ltb _ _ (w .if2 .left), sym (r .before .release-past .ensures) ∙ r .if3 .left)
+    simp (
+      c .last-number .ensures,
+      c .before .first-number .ensures,
+      passed (k .before .sound .ensures) (k .if1 .left),
+      lt-ltb _ _ (w .if2 .left),
+      sym (r .before .release-past .ensures) ∙ r .if3 .left,
+    )
 
 pub window-of-spec : {M : Type 1} → statement M
 window-of-spec =

@@ -41,7 +41,7 @@ loop-again c =
     let o = c .before .before .before .before .out2 .given in
     let p = c .before .before .before .before .before .before .before .before .before .before .before .before .before .before .before .before .piece .given in
     let i = c .before .before .before .before .before .before .before .before .before .before .before .before .before .before .before .before .before .before .before .before .loop .inv in
-    let b = c .before .before .before .before .before .before .before .before .before .answer-block .ensures in
+    let b = c .before .before .before .before .before .before .before .before .before .answer-block .ensures .1 in
     (b .0, search needs, search needs, search needs, search needs, b .1)
 
 pub answer-all-spec : {M : Type 1} → statement M

@@ -1,43 +1,75 @@
--- `mulchpenny::answer_block`: each call of `feed` uses at least one byte (`next-moves`), so the loop ends.
-use borrow.Author.Needs.{needs}
-use native.Mathlib.Omega.{arith}
-use mathlib.Core.Path.{_≡_}
-use Prim.Native.Nat.{_-_, _<_, _≤_}
-use lib.ListN.{length, length-take}
+-- `mulchpenny::answer_block`: each call of `feed` goes on where the block was left (`comes-on`) and uses at least one byte
+-- (`next-moves`), so the loop ends, and it ends at the block's end unless a write failed.
+use Rattle.common.specs.Words.{needs, arith, _≡_, refl, _-_, _<_, _≤_, length, take}
 use Rattle.console.specs.Kept.{Kept}
-use Rattle.feed.specs.Session.{next-moves}
 use Rattle.feed.specs.Feed.{enough}
 use Rattle.feed.specs.Outcome.{worldOf}
+use Rattle.feed.specs.Session.{next-moves}
 use Rattle.lines.specs.Lines.{kept}
+use Rattle.mulchpenny.specs.Block.{Comes, comes-none, comes-on}
 use Rattle.mulchpenny.proofs.answer_block.Statement.{statement}
 use Rattle.mulchpenny.proofs.answer_block.Tie as tie
 
 abbrev Inv-loop : tie.InvT-loop
 Inv-loop memory₀ held₀ used piece out₀ d₀ u₀ at₀ memory held out d u at =
     (u ≤ kept) × (at ≤ length piece) × (length held ≡ length held₀) × (length out ≡ length out₀) × (length memory ≡ length memory₀) × Kept d
+    × Comes (worldOf d₀ memory₀) (take used held₀) (take at piece) (worldOf d memory) (take u held)
 
 abbrev μ-loop : tie.MeasureT-loop
 μ-loop memory₀ held₀ used piece out₀ d₀ u₀ at₀ memory held out d u at = length piece - at
 
-slice-aggregate-write-all : tie.Need-slice-aggregate-write-all Inv-loop μ-loop
-slice-aggregate-write-all c = simp length-take (omega arith)
+loop-holds : tie.Need-loop-holds Inv-loop μ-loop
+loop-holds c =
+    let k = c .before .before .before .before in
+    let a = k .args in
+    (k .pre .0, omega arith, refl, refl, refl, k .pre .3, comes-none (worldOf (a .desk) (a .memory .now)) (take (a .used) (a .held .now)) (a .piece .now))
+
+-- ## A call of feed
+
+module _ (f : tie.After-feed Inv-loop μ-loop) where
+  abbrev turn : tie.In-loop Inv-loop μ-loop
+  turn = f .before .before .before .before
+
+  abbrev start : tie.Start Inv-loop μ-loop
+  start = turn .before .before .before .before .before .before
+
+  moves : turn .before .loop .at < f .feed .result .next
+  moves =
+      let l = turn .before .loop in
+      let room : enough ≤ length (l .out) = omega (arith, l .inv .3, start .pre .2) in
+      next-moves (worldOf (l .d) (l .memory)) (l .held) (l .u) (start .args .piece .now) (l .at) (l .out) (l .held) (l .out) (f .feed .result)
+      _ _ _ (f .feed .ensures .0) room (turn .loop-test .taken)
+
+  comes :
+      Comes (worldOf (start .args .desk) (start .args .memory .now)) (take (start .args .used) (start .args .held .now))
+      (take (f .feed .result .next) (start .args .piece .now)) (worldOf (f .feed .result .desk) (f .feed .last .1 .0))
+      (take (f .feed .result .used) (f .feed .last .1 .1 .0))
+  comes =
+      let l = turn .before .loop in
+      comes-on (worldOf (l .d) (l .memory)) (l .held) (l .u) (start .args .piece .now) (l .at) (l .out) (l .inv .1) (l .inv .6)
+      (f .feed .ensures .0)
+
+-- a write failed
+returns : tie.Need-returns Inv-loop μ-loop
+returns c =
+    let f = c .before .before .before .before .before .before .before .before .before .before in
+    (record { inside = omega (arith, f .feed .ensures .0 .next-fits); comes = comes f; whole = λ e. cc }, (f .feed .ensures .0 .used-fits, f .feed .ensures .1))
 
 loop-less : tie.Need-loop-less Inv-loop μ-loop
 loop-less c =
     let f = c .before .before .before .before .before .before .before .before .before .before in
-    let i = f .before .before .before .before in
-    let l = i .before .loop in
-    let k = i .before .before .before .before .before .before in
-    let room : enough ≤ length (l .out) = omega (arith, l .inv .3, k .pre .2) in
-    let n : l .at < f .feed .result .next =
-    next-moves (worldOf (l .d) (l .memory)) (l .held) (l .u) (k .args .piece .now) (l .at) (l .out) (l .held) (l .out) (f .feed .result)
-    (f .feed .last .1 .0) (f .feed .last .1 .1 .0) (f .feed .last .1 .1 .1 .1 .1 .1 .0) (f .feed .ensures .0) room (i .loop-test .taken) in
-    omega (arith, i .loop-test .taken)
+    omega (arith, moves f, turn f .loop-test .taken)
 
 loop-again : tie.Need-loop-again Inv-loop μ-loop
 loop-again c =
     let f = c .before .before .before .before .before .before .before .before .before .before in
-    (f .feed .ensures .0 .used-fits, f .feed .ensures .0 .next-fits, search needs, search needs, search needs, f .feed .ensures .1)
+    (f .feed .ensures .0 .used-fits, omega (arith, f .feed .ensures .0 .next-fits), search needs, search needs, search needs, f .feed .ensures .1, comes f)
+
+-- the block is used up
+returns-2 : tie.Need-returns-2 Inv-loop μ-loop
+returns-2 c =
+    let i = c .before .loop .inv in
+    (record { inside = i .1; comes = i .6; whole = λ e. omega (arith, i .1, c .loop-test .left) }, (i .0, i .5))
 
 pub answer-block-spec : {M : Type 1} → statement M
 answer-block-spec =
@@ -45,18 +77,16 @@ answer-block-spec =
     (tie.spec
     Inv-loop
     μ-loop
-    (λ c. search needs)
+    loop-holds
+    (λ c κs. search needs)
     (λ c κs. search needs)
     (λ c. search needs)
-    slice-aggregate-write-all
-    (λ c κs. search needs)
     (λ c. search needs)
     (λ c. search needs)
-    (λ c. search needs)
-    (λ c. search needs)
+    returns
     loop-less
     loop-again
     (λ c. search needs)
     (λ c. search needs)
     (λ c. search needs)
-    (λ c. search needs))
+    returns-2)

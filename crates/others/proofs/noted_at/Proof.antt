@@ -9,7 +9,8 @@ use Rattle.others.proofs.noted_at.Tie as tie
 
 returns : tie.Need-returns
 unfolding notedAt worst
-returns c = let a = c .before .before .args in λ w e. rw (c .noted .ensures, eq-eqb (a .kind) APPLIES (c .before .if1 .taken), e, worst-first (a .reading .fault) w)
+returns c = let a = c .before .before .args in
+    λ w e. rw (c .noted .ensures, eq-eqb (a .kind) APPLIES (c .before .if1 .taken), e, worst-first (a .reading .fault) w)
 
 returns-2 : tie.Need-returns-2
 unfolding notedAt worst

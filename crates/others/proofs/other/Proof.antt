@@ -14,7 +14,8 @@ returns c =
     let b = c .before .before in let k = b .before .before .before in let a = k .before .before .before .args in
     λ m. let s = stateOf (a .text .now) (a .reading) m in
     let inner = stateOf (a .text .now) (b .passed .result) m in
-    let first : stateOf (a .text .now) (b .before .on .result) m ≡ does s (quiet any) = rw (b .before .on .ensures, b .before .before .any .ensures) (does-quiet s any) in
+    let first : stateOf (a .text .now) (b .before .on .result) m ≡ does s (quiet any) =
+    rw (b .before .on .ensures, b .before .before .any .ensures) (does-quiet s any) in
     rw (c .on2 .ensures, c .before .path-end .ensures)
     (does-quiet inner pathEnd
     ∙ ap (λ (t : State). does t (quiet pathEnd)) (b .passed .ensures m ∙ ap (λ (t : State). does t (passing (k .is-outside .result) [])) first)
@@ -23,4 +24,5 @@ returns c =
 pub other-spec : {M : Type 1} → statement M
 other-spec =
     tie.close
-    (tie.spec (λ c κs. search needs) (λ c κs. search needs) (λ c κs. search needs) (λ c κs. search needs) (λ c κs. search needs) (λ c κs. search needs) (λ c κs. search needs) returns)
+    (tie.spec (λ c κs. search needs) (λ c κs. search needs) (λ c κs. search needs) (λ c κs. search needs)
+    (λ c κs. search needs) (λ c κs. search needs) (λ c κs. search needs) returns)

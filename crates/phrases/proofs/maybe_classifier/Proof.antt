@@ -12,7 +12,8 @@ returns : tie.Need-returns
 unfolding maybeClassifier
 returns c =
     let k = c .before .before in let a = k .before .before .before .args in let s = lift (a .text .now) (a .went) in
-    rw (c .classifier .ensures) (optional-on named classifier s (kind-on isName s refl (rw (← k .before .next .ensures, ← k .is-name .ensures) (c .before .if1 .taken))))
+    rw (c .classifier .ensures) (optional-on named classifier s (kind-on isName s refl
+    (rw (← k .before .next .ensures, ← k .is-name .ensures) (c .before .if1 .taken))))
 
 returns-2 : tie.Need-returns-2
 unfolding maybeClassifier

@@ -41,5 +41,6 @@ returns c =
 pub paths-spec : {M : Type 1} → statement M
 paths-spec =
     tie.close
-    (tie.spec Inv-loop μ-loop (λ c κs. search needs) loop-holds (λ c κs. search needs) (λ c κs. search needs) (λ c κs. search needs) loop-less
+    (tie.spec Inv-loop μ-loop (λ c κs. search needs) loop-holds (λ c κs. search needs)
+    (λ c κs. search needs) (λ c κs. search needs) loop-less
     loop-again (λ c κs. search needs) returns)

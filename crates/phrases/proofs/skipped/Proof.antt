@@ -27,7 +27,8 @@ loop-again : tie.Need-loop-again Inv-loop μ-loop
 loop-again c =
     let k = c .before .before in let l = k .before .before in let s = lift (l .before .before .before .args .text .now) (l .loop .w) in
     rw (c .any2 .ensures)
-    (many-on _ any skip-advances s (skip-on s (rw (← k .before .next .ensures, ← k .in-section .ensures) (c .before .if1 .taken))) ∙ l .loop .inv)
+    (many-on _ any skip-advances s (skip-on s (rw (← k .before .next .ensures, ← k .in-section .ensures)
+    (c .before .if1 .taken))) ∙ l .loop .inv)
 
 returns : tie.Need-returns Inv-loop μ-loop
 returns c =
@@ -38,5 +39,6 @@ returns c =
 pub skipped-spec : {M : Type 1} → statement M
 skipped-spec =
     tie.close
-    (tie.spec Inv-loop μ-loop (λ c κs. search needs) loop-holds (λ c κs. search needs) (λ c κs. search needs) (λ c κs. search needs) loop-less
+    (tie.spec Inv-loop μ-loop (λ c κs. search needs) loop-holds (λ c κs. search needs)
+    (λ c κs. search needs) (λ c κs. search needs) loop-less
     loop-again returns)

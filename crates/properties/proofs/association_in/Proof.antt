@@ -17,7 +17,8 @@ owned-requires c κs =
 returns : tie.Need-returns
 returns c =
     let k = c .before .before .before in let a = k .before .before .args in
-    λ m. c .owned .ensures m ∙ rw (k .property-at .ensures) (association-read (a .of) (stateOf (a .text .now) (a .reading) m) (rw (← k .property-at .ensures) (sym (c .before .before .is-read .ensures) ∙ c .before .if1 .taken)))
+    λ m. c .owned .ensures m ∙ rw (k .property-at .ensures) (association-read (a .of) (stateOf (a .text .now) (a .reading) m)
+    (rw (← k .property-at .ensures) (sym (c .before .before .is-read .ensures) ∙ c .before .if1 .taken)))
 
 skipped-in-requires : tie.Need-skipped-in-requires
 skipped-in-requires c κs = c .before .before .property-at .ensures
@@ -25,7 +26,8 @@ skipped-in-requires c κs = c .before .before .property-at .ensures
 returns-2 : tie.Need-returns-2
 returns-2 c =
     let k = c .before .before .before in let a = k .before .before .args in
-    λ m. c .skipped-in .ensures m ∙ association-skipped (a .of) (stateOf (a .text .now) (a .reading) m) (rw (← k .property-at .ensures) (sym (c .before .before .is-read .ensures) ∙ c .before .if1 .left))
+    λ m. c .skipped-in .ensures m ∙ association-skipped (a .of) (stateOf (a .text .now) (a .reading) m)
+    (rw (← k .property-at .ensures) (sym (c .before .before .is-read .ensures) ∙ c .before .if1 .left))
 
 pub association-in-spec : {M : Type 1} → statement M
 association-in-spec =

@@ -13,7 +13,8 @@ use Rattle.properties.proofs.associations_in.Statement.{statement}
 use Rattle.properties.proofs.associations_in.Tie as tie
 
 abbrev Inv-loop : tie.InvT-loop
-Inv-loop text of r₀ r = (m : List ℕ) → does (stateOf text r m) (repeat named (associationIn of)) ≡ does (stateOf text r₀ m) (repeat named (associationIn of))
+Inv-loop text of r₀ r = (m : List ℕ) → does (stateOf text r m) (repeat named (associationIn of))
+    ≡ does (stateOf text r₀ m) (repeat named (associationIn of))
 
 abbrev μ-loop : tie.MeasureT-loop
 μ-loop text of r₀ r = size (lift text (r .went))
@@ -27,7 +28,8 @@ unfolding associationsIn
 loop-less c =
     let k = c .before .before in let l = k .before .before in let a = l .before .before .args in let s = stateOf (a .text .now) (l .loop .r) [] in
     rw (ap (λ (x : State). x .went) (c .association-in .ensures []))
-    (repeat-less named (associationIn (a .of)) (advances-on named (associationIn (a .of)) (association-in-moves (a .of))) s (kind-on isName (s .went) refl (rw (← k .before .next-of .ensures, ← k .is-name .ensures) (c .before .if1 .taken))))
+    (repeat-less named (associationIn (a .of)) (advances-on named (associationIn (a .of)) (association-in-moves (a .of))) s
+    (kind-on isName (s .went) refl (rw (← k .before .next-of .ensures, ← k .is-name .ensures) (c .before .if1 .taken))))
 
 loop-again : tie.Need-loop-again Inv-loop μ-loop
 unfolding associationsIn
@@ -35,14 +37,16 @@ loop-again c =
     let k = c .before .before in let l = k .before .before in let a = l .before .before .args in
     λ m. let s = stateOf (a .text .now) (l .loop .r) m in
     rw (c .association-in .ensures m)
-    (repeat-on named (associationIn (a .of)) (advances-on named (associationIn (a .of)) (association-in-moves (a .of))) s (kind-on isName (s .went) refl (rw (← k .before .next-of .ensures, ← k .is-name .ensures) (c .before .if1 .taken))) ∙ l .loop .inv m)
+    (repeat-on named (associationIn (a .of)) (advances-on named (associationIn (a .of)) (association-in-moves (a .of))) s
+    (kind-on isName (s .went) refl (rw (← k .before .next-of .ensures, ← k .is-name .ensures) (c .before .if1 .taken))) ∙ l .loop .inv m)
 
 returns : tie.Need-returns Inv-loop μ-loop
 unfolding associationsIn
 returns c =
     let k = c .before in let l = k .before .before in let a = l .before .before .args in
     λ m. let s = stateOf (a .text .now) (l .loop .r) m in
-    repeat-off named (associationIn (a .of)) (advances-on named (associationIn (a .of)) (association-in-moves (a .of))) s (kind-off isName (s .went) (rw (← k .before .next-of .ensures, ← k .is-name .ensures) (c .if1 .left))) ∙ l .loop .inv m
+    repeat-off named (associationIn (a .of)) (advances-on named (associationIn (a .of)) (association-in-moves (a .of))) s
+    (kind-off isName (s .went) (rw (← k .before .next-of .ensures, ← k .is-name .ensures) (c .if1 .left))) ∙ l .loop .inv m
 
 pub associations-in-spec : {M : Type 1} → statement M
 unfolding associationsIn

@@ -18,7 +18,8 @@ returns-2 : tie.Need-returns-2
 unfolding worst
 returns-2 c =
     let a = c .before .before .before .before .args in
-    rw (form-offset (a .property) (lift (a .text .now) (a .went)) (c .before .if2 .taken)) (record { went = c .value .ensures; value = refl; fault = refl })
+    rw (form-offset (a .property) (lift (a .text .now) (a .went)) (c .before .if2 .taken))
+    (record { went = c .value .ensures; value = refl; fault = refl })
 
 returns-3 : tie.Need-returns-3
 unfolding worst
@@ -32,4 +33,5 @@ pub form-spec : {M : Type 1} → statement M
 unfolding worst
 form-spec =
     tie.close
-    (tie.spec (λ c κs. search needs) returns (λ c κs. search needs) returns-2 (λ c κs. search needs) (λ c κs. search needs) (λ c κs. search needs) returns-3)
+    (tie.spec (λ c κs. search needs) returns (λ c κs. search needs) returns-2
+    (λ c κs. search needs) (λ c κs. search needs) (λ c κs. search needs) returns-3)

@@ -14,7 +14,8 @@ returns : tie.Need-returns
 unfolding maybeBlockIn
 returns c =
     let a = c .before .before .before .args in
-    λ m. let s = stateOf (a .text .now) (a .reading) m in optionally-off (is OPEN-BRACE) (blockIn (a .of)) s (is-off OPEN-BRACE (s .went) (λ e. c .if1 .taken (c .before .next-of .ensures ∙ e)))
+    λ m. let s = stateOf (a .text .now) (a .reading) m in optionally-off (is OPEN-BRACE) (blockIn (a .of)) s
+    (is-off OPEN-BRACE (s .went) (λ e. c .if1 .taken (c .before .next-of .ensures ∙ e)))
 
 returns-2 : tie.Need-returns-2
 unfolding maybeBlockIn
@@ -22,7 +23,8 @@ returns-2 c =
     let k = c .before .before .before in let a = k .before .before .before .args in
     λ m. let s = stateOf (a .text .now) (a .reading) m in
     rw (c .symbol-on2 .ensures m, c .before .associations-in .ensures m, c .before .before .symbol-on .ensures m)
-    (block-does (a .of) s ∙ optionally-on (is OPEN-BRACE) (blockIn (a .of)) s (is-on OPEN-BRACE (s .went) (λ e. omega arith) (sym (k .before .next-of .ensures) ∙ k .if1 .left)))
+    (block-does (a .of) s ∙ optionally-on (is OPEN-BRACE) (blockIn (a .of)) s
+    (is-on OPEN-BRACE (s .went) (λ e. omega arith) (sym (k .before .next-of .ensures) ∙ k .if1 .left)))
 
 pub maybe-block-in-spec : {M : Type 1} → statement M
 unfolding maybeBlockIn

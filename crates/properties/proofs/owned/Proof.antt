@@ -12,7 +12,15 @@ returns c =
     let a = k .args in
     let f = g .form .ensures in
     λ m.
-    rw (c .worse .ensures, c .before .before .symbol2 .ensures, f .went, f .value, f .fault, g .before .symbol .ensures, g .before .before .scoped .ensures)
+    rw (
+      c .worse .ensures,
+      c .before .before .symbol2 .ensures,
+      f .went,
+      f .value,
+      f .fault,
+      g .before .symbol .ensures,
+      g .before .before .scoped .ensures,
+    )
     (owned-first (a .property) (stateOf (a .text .now) (a .reading) m) (k .pre .1) (c .before .if1 .taken))
 
 returns-2 : tie.Need-returns-2
@@ -38,4 +46,6 @@ returns-2 c =
 pub owned-spec : {M : Type 1} → statement M
 owned-spec =
     tie.close
-    (tie.spec (λ c κs. search needs) (λ c κs. search needs) (λ c κs. search needs) (λ c κs. search needs) (λ c. search needs) (λ c. search needs) (λ c. search needs) (λ c. search needs) (λ c κs. search needs) returns (λ c κs. search needs) (λ c κs. search needs) (λ c κs. search needs) returns-2)
+    (tie.spec (λ c κs. search needs) (λ c κs. search needs) (λ c κs. search needs) (λ c κs. search needs) (λ c. search needs)
+    (λ c. search needs) (λ c. search needs) (λ c. search needs) (λ c κs. search needs) returns
+    (λ c κs. search needs) (λ c κs. search needs) (λ c κs. search needs) returns-2)

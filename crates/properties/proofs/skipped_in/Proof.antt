@@ -8,7 +8,8 @@ use Rattle.properties.proofs.skipped_in.Tie as tie
 returns : tie.Need-returns
 returns c =
     let a = c .before .before .before .before .args in
-    λ m. rw (c .before .on .ensures, c .before .before .association .ensures) (skipped-plain (a .of) (stateOf (a .text .now) (a .reading) m) (c .if1 .taken))
+    λ m. rw (c .before .on .ensures, c .before .before .association .ensures)
+    (skipped-plain (a .of) (stateOf (a .text .now) (a .reading) m) (c .if1 .taken))
 
 returns-2 : tie.Need-returns-2
 returns-2 c =
@@ -16,14 +17,16 @@ returns-2 c =
     let k = b .before .before .before in
     let a = k .args in
     λ m. rw (c .noted .ensures, b .on .ensures, b .before .association .ensures, c .before .start-of .ensures)
-    (skipped-noted (a .of) (stateOf (a .text .now) (a .reading) m) (c .before .before .before .if1 .left) (rw (← k .pre) (c .before .before .if2 .taken)))
+    (skipped-noted (a .of) (stateOf (a .text .now) (a .reading) m) (c .before .before .before .if1 .left)
+    (rw (← k .pre) (c .before .before .if2 .taken)))
 
 returns-3 : tie.Need-returns-3
 returns-3 c =
     let b = c .before .before in
     let k = b .before .before .before in
     let a = k .args in
-    λ m. rw (b .on .ensures, b .before .association .ensures) (skipped-other (a .of) (stateOf (a .text .now) (a .reading) m) (rw (← k .pre) (c .if2 .left)))
+    λ m. rw (b .on .ensures, b .before .association .ensures) (skipped-other (a .of)
+    (stateOf (a .text .now) (a .reading) m) (rw (← k .pre) (c .if2 .left)))
 
 pub skipped-in-spec : {M : Type 1} → statement M
 skipped-in-spec =

@@ -14,4 +14,5 @@ returns-3 : tie.Need-returns-3
 returns-3 c = c .judge .ensures ∙ end-judged _ _ _ _ _ _ (c .before .before .enum-told .given .1) (c .before .if1 .left)
 
 pub least-fault-spec : {M : Type 1} → statement M
-least-fault-spec = tie.close (tie.spec (λ c. search needs) (λ c κs. search needs) returns (λ c. search needs) returns-2 (λ c κs. search needs) returns-3)
+least-fault-spec = tie.close (tie.spec (λ c. search needs) (λ c κs. search needs) returns
+    (λ c. search needs) returns-2 (λ c κs. search needs) returns-3)

@@ -1,12 +1,14 @@
 -- `rows::keep`: the numbers so far stand in their places.
-use Rattle.common.specs.Words.{needs, ℕ, _≡_, refl, sym, ap, _∙_, _+_, _-_, _*_, _≤_, _<_, arith, length, take, sets, length-set, length-sets, take-all, le-leb, lt-leb}
+use Rattle.common.specs.Words.{needs, ℕ, _≡_, refl, sym, ap, _∙_, _+_, _-_, _*_, _≤_, _<_, arith, length}
+use Rattle.common.specs.Words.{take, sets, length-set, length-sets, take-all, le-leb, lt-leb}
 use Rattle.common.specs.Stores.{sets-more}
 use Rattle.rows.specs.Rows.{store, kept}
 use Rattle.rows.proofs.keep.Statement.{statement}
 use Rattle.rows.proofs.keep.Tie as tie
 
 abbrev Inv-loop : tie.InvT-loop
-Inv-loop rows₀ count row at k₀ rows k = (k ≤ 9) × (length rows ≡ length rows₀) × (rows ≡ sets rows₀ at (take k row)) × (at ≡ 9 * count)
+Inv-loop rows₀ count row at k₀ rows k = (k ≤ 9) × (length rows ≡ length rows₀)
+    × (rows ≡ sets rows₀ at (take k row)) × (at ≡ 9 * count)
 
 abbrev μ-loop : tie.MeasureT-loop
 μ-loop rows₀ count row at k₀ rows k = 9 - k
@@ -48,4 +50,5 @@ pub keep-spec : {M : Type 1} → statement M
 unfolding kept
 keep-spec =
     tie.close
-    (tie.spec Inv-loop μ-loop returns (λ c. search needs) loop-holds (λ c. search needs) (λ c. search needs) (λ c. search needs) (λ c. search needs) (λ c. search needs) (λ c. search needs) (λ c. search needs) loop-again (λ c. search needs) same-length returns-2)
+    (tie.spec Inv-loop μ-loop returns (λ c. search needs) loop-holds (λ c. search needs) (λ c. search needs) (λ c. search needs)
+    (λ c. search needs) (λ c. search needs) (λ c. search needs) (λ c. search needs) loop-again (λ c. search needs) same-length returns-2)

@@ -19,8 +19,12 @@ loop-holds c = (search needs, search needs, table-none _ [])
 loop-again : tie.Need-loop-again Inv-loop μ-loop
 unfolding merged
 loop-again c =
-    let l = c .before .before in let a = l .before .args in
-    (search needs, search needs, rw (c .first-of .ensures) (table-more (λ (i : ℕ). firstOf (getD (a .t1) i 0) (getD (a .t2) i 0)) (l .loop .out) (l .loop .q) (search needs) (l .loop .inv .2)))
+    let l = c .before .before in let a = l .before .args in (
+      search needs,
+      search needs,
+      rw (c .first-of .ensures) (table-more (λ (i : ℕ). firstOf (getD (a .t1) i 0) (getD (a .t2) i 0))
+          (l .loop .out) (l .loop .q) (search needs) (l .loop .inv .2)),
+    )
 
 returns : tie.Need-returns Inv-loop μ-loop
 unfolding merged
@@ -30,4 +34,5 @@ pub merged-spec : {M : Type 1} → statement M
 unfolding merged
 merged-spec =
     tie.close
-    (tie.spec Inv-loop μ-loop loop-holds (λ c. search needs) (λ c. search needs) (λ c. search needs) (λ c. search needs) (λ c κs. search needs) (λ c. search needs) (λ c. search needs) (λ c. search needs) (λ c. search needs) loop-again returns)
+    (tie.spec Inv-loop μ-loop loop-holds (λ c. search needs) (λ c. search needs) (λ c. search needs) (λ c. search needs)
+    (λ c κs. search needs) (λ c. search needs) (λ c. search needs) (λ c. search needs) (λ c. search needs) loop-again returns)

@@ -7,7 +7,8 @@ use Rattle.rows.proofs.symbol_on.Statement.{statement}
 use Rattle.rows.proofs.symbol_on.Tie as tie
 
 returns : tie.Need-returns
-returns c = let a = c .before .before .before .args in λ m. rw (c .on .ensures, c .before .symbol .ensures) (does-quiet (stateOf (a .text .now) (a .reading) m) (the (a .kind)))
+returns c = let a = c .before .before .before .args in λ m. rw (c .on .ensures, c .before .symbol .ensures)
+    (does-quiet (stateOf (a .text .now) (a .reading) m) (the (a .kind)))
 
 pub symbol-on-spec : {M : Type 1} → statement M
 symbol-on-spec =

@@ -15,7 +15,8 @@ returns-3 c =
     let k = c .before .before in
     let p = k .before .before .before .before .before .args .text .now in
     rw (k .before .before .went .given .1)
-    (any-on p _ (k .spot-at .result) (k .spot-at .ensures) (λ e. omega arith) ∙ name-on p _ (k .spot-at .result) (k .spot-at .ensures) (search needs))
+    (any-on p _ (k .spot-at .result) (k .spot-at .ensures) (λ e. omega arith)
+    ∙ name-on p _ (k .spot-at .result) (k .spot-at .ensures) (search needs))
 
 pub name-spec : {M : Type 1} → statement M
 name-spec =

@@ -12,7 +12,8 @@ returns-2 : tie.Need-returns-2
 returns-2 c =
     let k = c .before .before .before in
     let a = k .before .before .before .before .before .args in
-    rw (k .before .before .went .given .1, c .unfit .ensures) (own-name (a .text .now) _ (k .spot-at .result) (k .spot-at .ensures) (head (from (a .text .now) (a .at))) (search needs))
+    rw (k .before .before .went .given .1, c .unfit .ensures) (own-name (a .text .now) _ (k .spot-at .result)
+    (k .spot-at .ensures) (head (from (a .text .now) (a .at))) (search needs))
 
 returns-3 : tie.Need-returns-3
 returns-3 c =
@@ -23,7 +24,8 @@ returns-3 c =
     let s = k .spot-at .result in
     let e = j .spot-at2 .result in
     rw (k .before .before .went .given .1, c .unfit2 .ensures, j .spot-at2 .ensures .tokens)
-    (own-by p _ s (k .spot-at .ensures) (tokenOf p e) false (search needs) (end-differs p _ (a .at) s e (k .spot-at .ensures) (j .spot-at2 .ensures) (search needs) (c .before .if2 .taken)))
+    (own-by p _ s (k .spot-at .ensures) (tokenOf p e) false (search needs)
+    (end-differs p _ (a .at) s e (k .spot-at .ensures) (j .spot-at2 .ensures) (search needs) (c .before .if2 .taken)))
 
 same-bytes-requires : tie.Need-same-bytes-requires
 same-bytes-requires c κs =
@@ -41,7 +43,8 @@ returns-4 c =
     let a = k .before .before .before .before .before .args in
     let p = a .text .now in
     rw (k .before .before .went .given .1, c .unfit3 .ensures, j .spot-at2 .ensures .tokens)
-    (own-by p _ (k .spot-at .result) (k .spot-at .ensures) (tokenOf p (j .spot-at2 .result)) false (search needs) (failed (i .same-bytes .ensures) (c .before .if3 .taken)))
+    (own-by p _ (k .spot-at .result) (k .spot-at .ensures) (tokenOf p (j .spot-at2 .result)) false
+    (search needs) (failed (i .same-bytes .ensures) (c .before .if3 .taken)))
 
 returns-5 : tie.Need-returns-5
 returns-5 c =
@@ -52,9 +55,11 @@ returns-5 c =
     let p = a .text .now in
     rw (k .before .before .went .given .1, j .spot-at2 .ensures .tokens)
     (any-on p _ (k .spot-at .result) (k .spot-at .ensures) (λ x. omega arith)
-    ∙ own-by p _ (k .spot-at .result) (k .spot-at .ensures) (tokenOf p (j .spot-at2 .result)) true (search needs) (passed (i .same-bytes .ensures) (c .if3 .left)))
+    ∙ own-by p _ (k .spot-at .result) (k .spot-at .ensures) (tokenOf p (j .spot-at2 .result)) true
+    (search needs) (passed (i .same-bytes .ensures) (c .if3 .left)))
 
 pub own-spec : {M : Type 1} → statement M
 own-spec =
     tie.close
-    (tie.spec (λ c. search needs) (λ c. search needs) (λ c. search needs) (λ c κs. search needs) (λ c κs. search needs) returns-2 (λ c κs. search needs) (λ c κs. search needs) returns-3 same-bytes-requires (λ c κs. search needs) returns-4 returns-5)
+    (tie.spec (λ c. search needs) (λ c. search needs) (λ c. search needs) (λ c κs. search needs) (λ c κs. search needs) returns-2
+    (λ c κs. search needs) (λ c κs. search needs) returns-3 same-bytes-requires (λ c κs. search needs) returns-4 returns-5)

@@ -15,7 +15,12 @@ returns-3 : tie.Need-returns-3
 unfolding behind
 returns-3 c =
     let k = c .before .before .before in
-    rw (k .before .before .went .given .1, k .spot-at .ensures .tokens, ne-eqb (k .spot-at .result .kind) ENDED (c .before .if1 .left), c .spot-at2 .ensures .tokens)
+    rw (
+      k .before .before .went .given .1,
+      k .spot-at .ensures .tokens,
+      ne-eqb (k .spot-at .result .kind) ENDED (c .before .if1 .left),
+      c .spot-at2 .ensures .tokens,
+    )
 
 pub second-spec : {M : Type 1} → statement M
 unfolding behind

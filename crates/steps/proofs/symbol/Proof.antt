@@ -8,7 +8,8 @@ returns-2 : tie.Need-returns-2
 returns-2 c =
     let k = c .before .before .before in
     let a = k .before .before .before .before .before .args in
-    rw (k .before .before .went .given .1, c .unfit .ensures) (the-off (a .text .now) _ (k .spot-at .result) (k .spot-at .ensures) (a .kind) (c .before .if1 .taken))
+    rw (k .before .before .went .given .1, c .unfit .ensures) (the-off (a .text .now) _
+    (k .spot-at .result) (k .spot-at .ensures) (a .kind) (c .before .if1 .taken))
 
 returns-3 : tie.Need-returns-3
 returns-3 c =
@@ -31,4 +32,5 @@ returns-4 c =
 pub symbol-spec : {M : Type 1} → statement M
 symbol-spec =
     tie.close
-    (tie.spec (λ c. search needs) (λ c. search needs) (λ c. search needs) (λ c κs. search needs) (λ c κs. search needs) returns-2 returns-3 returns-4)
+    (tie.spec (λ c. search needs) (λ c. search needs) (λ c. search needs)
+    (λ c κs. search needs) (λ c κs. search needs) returns-2 returns-3 returns-4)

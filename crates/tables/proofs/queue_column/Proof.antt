@@ -23,4 +23,5 @@ returns c =
     table-all _ (l .out) 8 (l .inv .1) (rw e at (l .inv .2))
 
 pub queue-column-spec : {M : Type 1} → statement M
-queue-column-spec = tie.close (tie.spec Inv-loop μ-loop (λ c. search (needs, table-none)) (λ c. search needs) (λ c. search needs) (λ c κs. search needs) (λ c. search needs) (λ c. search needs) (λ c. search needs) (λ c. search needs) loop-again returns)
+queue-column-spec = tie.close (tie.spec Inv-loop μ-loop (λ c. search (needs, table-none)) (λ c. search needs) (λ c. search needs)
+    (λ c κs. search needs) (λ c. search needs) (λ c. search needs) (λ c. search needs) (λ c. search needs) loop-again returns)

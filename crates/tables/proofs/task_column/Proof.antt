@@ -23,4 +23,5 @@ returns c =
     table-all _ (l .out) 16 (l .inv .1) (rw e at (l .inv .2))
 
 pub task-column-spec : {M : Type 1} → statement M
-task-column-spec = tie.close (tie.spec Inv-loop μ-loop (λ c. search (needs, table-none)) (λ c. search needs) (λ c. search needs) (λ c κs. search needs) (λ c. search needs) (λ c. search needs) (λ c. search needs) (λ c. search needs) loop-again returns)
+task-column-spec = tie.close (tie.spec Inv-loop μ-loop (λ c. search (needs, table-none)) (λ c. search needs) (λ c. search needs)
+    (λ c κs. search needs) (λ c. search needs) (λ c. search needs) (λ c. search needs) (λ c. search needs) loop-again returns)

@@ -20,9 +20,11 @@ returns-3 : tie.Need-returns-3
 returns-3 c =
     let i = c .before .before in let k = i .before in let a = k .before .before .args in
     c .any .ensures
-    ∙ clause-word (lift (a .text .now) (a .went)) (λ e. i .if1 .left (k .next .ensures ∙ e)) (λ e. c .before .if2 .left (k .next .ensures ∙ e))
+    ∙ clause-word (lift (a .text .now) (a .went)) (λ e. i .if1 .left
+    (k .next .ensures ∙ e)) (λ e. c .before .if2 .left (k .next .ensures ∙ e))
 
 pub clause-spec : {M : Type 1} → statement M
 clause-spec =
     tie.close
-    (tie.spec (λ c κs. search needs) (λ c κs. search needs) (λ c κs. search needs) returns (λ c κs. search needs) (λ c κs. search needs) returns-2 (λ c κs. search needs) returns-3)
+    (tie.spec (λ c κs. search needs) (λ c κs. search needs) (λ c κs. search needs) returns
+    (λ c κs. search needs) (λ c κs. search needs) returns-2 (λ c κs. search needs) returns-3)

@@ -22,7 +22,8 @@ loop-less c =
     let f = c .before .before in let k = f .before .before .before in let l = k .before .before in let a = l .before .before .before .args in
     let s = stateOf (a .text .now) (l .loop .r) (l .loop .rows) in
     rw (ap (λ (x : State). x .went) (f .part .ensures))
-    (repeat-less beginsPart part part-advances s (part-on (s .went) (rw (← k .before .next-of .ensures, ← k .begins-part .ensures) (f .before .before .if1 .taken))))
+    (repeat-less beginsPart part part-advances s (part-on (s .went)
+    (rw (← k .before .next-of .ensures, ← k .begins-part .ensures) (f .before .before .if1 .taken))))
 
 loop-again : tie.Need-loop-again Inv-loop μ-loop
 unfolding parts
@@ -30,7 +31,8 @@ loop-again c =
     let f = c .before .before in let k = f .before .before .before in let l = k .before .before in let a = l .before .before .before .args in
     let s = stateOf (a .text .now) (l .loop .r) (l .loop .rows) in (
       rw (f .part .ensures)
-          (repeat-on beginsPart part part-advances s (part-on (s .went) (rw (← k .before .next-of .ensures, ← k .begins-part .ensures) (f .before .before .if1 .taken)))
+          (repeat-on beginsPart part part-advances s (part-on (s .went)
+          (rw (← k .before .next-of .ensures, ← k .begins-part .ensures) (f .before .before .if1 .taken)))
           ∙ l .loop .inv .0),
       search needs,
     )
@@ -46,4 +48,5 @@ returns c =
 pub parts-spec : {M : Type 1} → statement M
 parts-spec =
     tie.close
-    (tie.spec Inv-loop μ-loop loop-holds (λ c κs. search needs) (λ c κs. search needs) (λ c κs. search needs) loop-less loop-again (λ c. c .before .before .before .loop .inv .1) returns)
+    (tie.spec Inv-loop μ-loop loop-holds (λ c κs. search needs) (λ c κs. search needs)
+    (λ c κs. search needs) loop-less loop-again (λ c. c .before .before .before .loop .inv .1) returns)

@@ -13,7 +13,8 @@ returns c =
 returns-2 : tie.Need-returns-2
 returns-2 c =
     let u = c .before .before in let i = u .before .before in let k = i .before in let a = k .before .before .before .args in
-    u .declaration .ensures ∙ piece-declaration (stateOf (a .text .now) (a .reading) (a .rows .now)) (λ e. i .if1 .left (k .next-of .ensures ∙ e))
+    u .declaration .ensures ∙ piece-declaration (stateOf (a .text .now) (a .reading) (a .rows .now))
+    (λ e. i .if1 .left (k .next-of .ensures ∙ e))
 
 pub piece-spec : {M : Type 1} → statement M
 piece-spec =

@@ -9,7 +9,8 @@ use Rattle.texts.proofs.pieces.Statement.{statement}
 use Rattle.texts.proofs.pieces.Tie as tie
 
 abbrev Inv-loop : tie.InvT-loop
-Inv-loop text rows₀ r₀ rows r = (does (stateOf text r rows) pieces ≡ does (stateOf text r₀ rows₀) pieces) × (length rows ≡ length rows₀)
+Inv-loop text rows₀ r₀ rows r = (does (stateOf text r rows) pieces ≡ does (stateOf text r₀ rows₀) pieces)
+    × (length rows ≡ length rows₀)
 
 abbrev μ-loop : tie.MeasureT-loop
 μ-loop text rows₀ r₀ rows r = size (lift text (r .went))
@@ -22,7 +23,8 @@ loop-less c =
     let f = c .before .before in let k = f .before .before .before in let l = k .before .before in let a = l .before .before .before .args in
     let s = stateOf (a .text .now) (l .loop .r) (l .loop .rows) in
     rw (ap (λ (x : State). x .went) (f .piece .ensures))
-    (repeat-less beginsPiece piece piece-advances s (piece-on (s .went) (rw (← k .before .next-of .ensures, ← k .begins-piece .ensures) (f .before .before .if1 .taken))))
+    (repeat-less beginsPiece piece piece-advances s (piece-on (s .went)
+    (rw (← k .before .next-of .ensures, ← k .begins-piece .ensures) (f .before .before .if1 .taken))))
 
 loop-again : tie.Need-loop-again Inv-loop μ-loop
 unfolding pieces
@@ -30,7 +32,8 @@ loop-again c =
     let f = c .before .before in let k = f .before .before .before in let l = k .before .before in let a = l .before .before .before .args in
     let s = stateOf (a .text .now) (l .loop .r) (l .loop .rows) in (
       rw (f .piece .ensures)
-          (repeat-on beginsPiece piece piece-advances s (piece-on (s .went) (rw (← k .before .next-of .ensures, ← k .begins-piece .ensures) (f .before .before .if1 .taken)))
+          (repeat-on beginsPiece piece piece-advances s (piece-on (s .went)
+          (rw (← k .before .next-of .ensures, ← k .begins-piece .ensures) (f .before .before .if1 .taken)))
           ∙ l .loop .inv .0),
       search needs,
     )
@@ -40,10 +43,12 @@ unfolding pieces
 returns c =
     let k = c .before in let l = k .before .before in let a = l .before .before .before .args in
     let s = stateOf (a .text .now) (l .loop .r) (l .loop .rows) in
-    repeat-off beginsPiece piece piece-advances s (piece-off (s .went) (rw (← k .before .next-of .ensures, ← k .begins-piece .ensures) (c .if1 .left)))
+    repeat-off beginsPiece piece piece-advances s (piece-off (s .went)
+    (rw (← k .before .next-of .ensures, ← k .begins-piece .ensures) (c .if1 .left)))
     ∙ l .loop .inv .0
 
 pub pieces-spec : {M : Type 1} → statement M
 pieces-spec =
     tie.close
-    (tie.spec Inv-loop μ-loop loop-holds (λ c κs. search needs) (λ c κs. search needs) (λ c κs. search needs) loop-less loop-again (λ c. c .before .before .before .loop .inv .1) returns)
+    (tie.spec Inv-loop μ-loop loop-holds (λ c κs. search needs) (λ c κs. search needs)
+    (λ c κs. search needs) loop-less loop-again (λ c. c .before .before .before .loop .inv .1) returns)

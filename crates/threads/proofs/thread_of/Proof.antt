@@ -23,7 +23,13 @@ returns c =
     let t = u .before .before .start-of .result in let i = u .before .start-of2 .result in
     let item : List ℕ → Row = λ (qs : List ℕ). threadRow (a .process) (a .named) t i qs in
     let behind : stateOf p (h .on .result) m ≡ does s (quiet classifier) =
-    rw (h .on .ensures, h .before .dotted .ensures, g .before .name .ensures, g .before .before .scopes .ensures, classifier-then (lift p (a .reading .went))) (does-quiet s classifier) in
+    rw (
+      h .on .ensures,
+      h .before .dotted .ensures,
+      g .before .name .ensures,
+      g .before .before .scopes .ensures,
+      classifier-then (lift p (a .reading .went)),
+    ) (does-quiet s classifier) in
     u .put .ensures p item refl
     ∙ ap (λ (t : State). does t (put item))
     (w .symbol-on .ensures m ∙ ap (λ (t : State). does t (quiet (the SEMICOLON))) (w .before .maybe-block-in .ensures m

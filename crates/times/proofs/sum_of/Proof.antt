@@ -8,7 +8,8 @@ use Rattle.times.proofs.sum_of.Tie as tie
 
 abbrev Inv-loop : tie.InvT-loop
 Inv-loop text start end places s₀ i₀ s i =
-    (withBytes grown s (part text i (end - i)) ≡ counted (part text start (end - start)) places) × (start ≤ i) × (i ≤ end) × (s .ticks ≤ most)
+    (withBytes grown s (part text i (end - i)) ≡ counted (part text start (end - start)) places)
+    × (start ≤ i) × (i ≤ end) × (s .ticks ≤ most)
 
 abbrev μ-loop : tie.MeasureT-loop
 μ-loop text start end places s₀ i₀ s i = end - i

@@ -69,5 +69,6 @@ returns-6 c =
 pub time-spec : {M : Type 1} → statement M
 time-spec =
     tie.close
-    (tie.spec (λ c. search needs) (λ c. search needs) returns (λ c κs. search needs) returns-2 (λ c κs. search needs) (λ c κs. search needs) returns-3
+    (tie.spec (λ c. search needs) (λ c. search needs) returns (λ c κs. search needs) returns-2
+    (λ c κs. search needs) (λ c κs. search needs) returns-3
     time-of-requires returns-4 time-of-requires-2 returns-5 (λ c κs. search needs) returns-6)

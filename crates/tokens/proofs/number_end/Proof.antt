@@ -24,7 +24,8 @@ unfolding numberWidth
 returns-2 c =
     let k = c .before .before .before .before .before in
     let a = k .before .before .args in
-    number-ends (a .text .now) (a .at) (k .past .result) (k .past .ensures) (rw (← c .before .before .byte-at2 .ensures, ← c .before .sort-of .ensures) (c .if2 .taken))
+    number-ends (a .text .now) (a .at) (k .past .result) (k .past .ensures)
+    (rw (← c .before .before .byte-at2 .ensures, ← c .before .sort-of .ensures) (c .if2 .taken))
 
 add-past : tie.Need-add-past
 unfolding numberWidth
@@ -39,10 +40,12 @@ returns-3 c =
     let a = k .before .before .args in
     let b = c .before .before .before in
     c .past2 .ensures ∙ number-goes (a .text .now) (a .at) (k .past .result) (k .past .ensures)
-    (rw (← b .before .before .byte-at .ensures) (b .before .if1 .left)) (rw (← b .byte-at2 .ensures, ← c .before .before .sort-of .ensures) (c .before .if2 .left))
+    (rw (← b .before .before .byte-at .ensures) (b .before .if1 .left))
+    (rw (← b .byte-at2 .ensures, ← c .before .before .sort-of .ensures) (c .before .if2 .left))
 
 pub number-end-spec : {M : Type 1} → statement M
 unfolding numberWidth
 number-end-spec =
     tie.close
-    (tie.spec (λ c κs. search needs) (λ c κs. search needs) returns add-byte-at (λ c κs. search needs) (λ c κs. search needs) returns-2 add-past (λ c κs. search needs) returns-3)
+    (tie.spec (λ c κs. search needs) (λ c κs. search needs) returns add-byte-at (λ c κs. search needs)
+    (λ c κs. search needs) returns-2 add-past (λ c κs. search needs) returns-3)

@@ -18,14 +18,24 @@ returns : tie.Need-returns Inv-loop μ-loop
 returns c =
     let l = c .before .before .before .before in
     let a = l .before .before .args in
-    omega (arith, l .loop .inv .0, run-below (a .text .now) (a .low) (a .high) (l .loop .i) (search needs) (rw (← c .before .sort-of .ensures) (c .if1 .taken)))
+    omega (
+      arith,
+      l .loop .inv .0,
+      run-below (a .text .now) (a .low) (a .high) (l .loop .i)
+          (search needs) (rw (← c .before .sort-of .ensures) (c .if1 .taken)),
+    )
 
 returns-2 : tie.Need-returns-2 Inv-loop μ-loop
 returns-2 c =
     let l = c .before .before .before .before .before in
     let a = l .before .before .args in
     let e = c .before .before .sort-of .ensures in
-    omega (arith, l .loop .inv .0, run-above (a .text .now) (a .low) (a .high) (l .loop .i) (search needs) (rw (← e) (search needs)) (rw (← e) (search needs)))
+    omega (
+      arith,
+      l .loop .inv .0,
+      run-above (a .text .now) (a .low) (a .high) (l .loop .i)
+          (search needs) (rw (← e) (search needs)) (rw (← e) (search needs)),
+    )
 
 loop-again : tie.Need-loop-again Inv-loop μ-loop
 loop-again c =
@@ -44,4 +54,5 @@ returns-3 c =
 pub past-spec : {M : Type 1} → statement M
 past-spec =
     tie.close
-    (tie.spec Inv-loop μ-loop loop-holds (λ c. search needs) (λ c κs. search needs) returns returns-2 (λ c. search needs) (λ c. search needs) loop-again returns-3)
+    (tie.spec Inv-loop μ-loop loop-holds (λ c. search needs) (λ c κs. search needs) returns returns-2
+    (λ c. search needs) (λ c. search needs) loop-again returns-3)

@@ -22,7 +22,8 @@ returns c =
     let k = c .before .before .before in
     let a = k .before .before .before .args in
     rw (c .word-kind .ensures)
-    (shape-word (a .text .now) (a .at) (c .before .past .result) (c .before .past .ensures) (sym (k .sort-of .ensures) ∙ c .before .before .if1 .taken))
+    (shape-word (a .text .now) (a .at) (c .before .past .result) (c .before .past .ensures)
+    (sym (k .sort-of .ensures) ∙ c .before .before .if1 .taken))
 
 sub-t11 : tie.Need-sub-t11
 unfolding shapeOf wordShape
@@ -48,4 +49,6 @@ pub shape-at-spec : {M : Type 1} → statement M
 unfolding shapeOf wordShape
 shape-at-spec =
     tie.close
-    (tie.spec (λ c. search needs) (λ c κs. search needs) (λ c κs. search needs) word-kind-requires sub-t9 returns (λ c κs. search needs) sub-t11 returns-2 (λ c. search needs) (λ c. search needs) (λ c κs. search needs) (λ c. search needs) (λ c κs. search needs) (λ c κs. search needs) returns-3)
+    (tie.spec (λ c. search needs) (λ c κs. search needs) (λ c κs. search needs) word-kind-requires sub-t9 returns
+    (λ c κs. search needs) sub-t11 returns-2 (λ c. search needs) (λ c. search needs) (λ c κs. search needs)
+    (λ c. search needs) (λ c κs. search needs) (λ c κs. search needs) returns-3)

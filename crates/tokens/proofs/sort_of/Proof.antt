@@ -21,7 +21,8 @@ returns : tie.Need-returns
 unfolding table sortOf
 returns c =
     let k = c .before .wide in
-    less _ (sortOf (k .result)) (c .wide2 .ensures .0 ∙ table-at (λ (b : ℕ). 48 + sortOf b) 256 (k .result) 0 (k .ensures .1)) ∙ ap sortOf (k .ensures .0)
+    less _ (sortOf (k .result)) (c .wide2 .ensures .0 ∙ table-at (λ (b : ℕ). 48 + sortOf b) 256 (k .result) 0 (k .ensures .1))
+    ∙ ap sortOf (k .ensures .0)
 
 pub sort-of-spec : {M : Type 1} → statement M
 sort-of-spec = tie.close (tie.spec (λ c κs. search needs) (λ c. search needs) (λ c κs. search needs) sub-result returns)

@@ -22,7 +22,8 @@ returns-2 : tie.Need-returns-2
 returns-2 c =
     let k = c .before .before .before in
     let a = k .before .before .args in
-    stands-token (a .text .now) (a .at) (k .past .result) (c .before .shape-at .result) (k .past .ensures) (search needs) (c .before .shape-at .ensures)
+    stands-token (a .text .now) (a .at) (k .past .result) (c .before .shape-at .result)
+    (k .past .ensures) (search needs) (c .before .shape-at .ensures)
 
 pub spot-at-spec : {M : Type 1} → statement M
 spot-at-spec = tie.close (tie.spec (λ c κs. search needs) returns (λ c κs. search needs) add-t5 returns-2)

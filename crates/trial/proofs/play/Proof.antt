@@ -8,7 +8,8 @@ use Rattle.trial.proofs.play.Statement.{statement}
 use Rattle.trial.proofs.play.Tie as tie
 
 abbrev Inv-loop : tie.InvT-loop
-Inv-loop text buffer₀ table₀ plan₀ run₀ lent₀ at₀ end₀ buffer table plan run lent at end = (at ≤ end) × (end ≤ length text) × (length buffer ≡ length buffer₀)
+Inv-loop text buffer₀ table₀ plan₀ run₀ lent₀ at₀ end₀ buffer table plan run lent at end =
+    (at ≤ end) × (end ≤ length text) × (length buffer ≡ length buffer₀)
 
 abbrev μ-loop : tie.MeasureT-loop
 μ-loop text buffer₀ table₀ plan₀ run₀ lent₀ at₀ end₀ buffer table plan run lent at end = length text - end

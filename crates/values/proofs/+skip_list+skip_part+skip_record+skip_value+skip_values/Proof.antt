@@ -82,7 +82,8 @@ abbrev skip-values-below : ℕ → In 1 skip-values-kinds.ps
 skip-values-below t = and 1 skip-values-kinds.ps (falls 1 skip-values-kinds.ps _<_ μ-skip-values t) skip-values.Pre
 
 abbrev skip-record-Inv-loop : skip-record-lts.InvT-loop
-skip-record-Inv-loop text depth w₀ w = lift text w ⟫ many named (fieldBy (valueOf depth)) ≡ lift text w₀ ⟫ many named (fieldBy (valueOf depth))
+skip-record-Inv-loop text depth w₀ w = lift text w ⟫ many named (fieldBy (valueOf depth))
+    ≡ lift text w₀ ⟫ many named (fieldBy (valueOf depth))
 
 abbrev skip-record-μ-loop : skip-record-lts.MeasureT-loop
 skip-record-μ-loop text depth w₀ w = size (lift text w)
@@ -94,7 +95,8 @@ abbrev skip-value-μ-loop : skip-value-lts.MeasureT-loop
 skip-value-μ-loop text depth w₀ w = size (lift text w)
 
 abbrev skip-values-Inv-loop : skip-values-lts.InvT-loop
-skip-values-Inv-loop text depth w₀ w = lift text w ⟫ many (isKind COMMA) (commaBy (valueOf depth)) ≡ lift text w₀ ⟫ many (isKind COMMA) (commaBy (valueOf depth))
+skip-values-Inv-loop text depth w₀ w = lift text w ⟫ many (isKind COMMA) (commaBy (valueOf depth))
+    ≡ lift text w₀ ⟫ many (isKind COMMA) (commaBy (valueOf depth))
 
 abbrev skip-values-μ-loop : skip-values-lts.MeasureT-loop
 skip-values-μ-loop text depth w₀ w = size (lift text w)
@@ -118,35 +120,70 @@ unfolding partKind
     (λ c κs. (omega arith, tt))
     (λ c κs. search needs)
     (λ c. let n = c .before .before .before in let a = n .before .before .args in
-    rw (c .symbol2 .ensures, c .before .skip-values .ensures) (list-goes (valueOf (a .depth)) (lift (a .text .now) (a .went)) (λ e. c .before .before .if1 .left (n .next .ensures ∙ e)))))
-    (λ t. skip-part-lts.spec (next-reads.Asked, next-reads.Learnt, stop-reads.Asked, stop-reads.Learnt, symbol-reads.Asked, symbol-reads.Learnt, skip-list-below t, skip-list.Post, skip-record-below t, skip-record.Post, begins-part-reads.Asked, begins-part-reads.Learnt, any-reads.Asked, any-reads.Learnt)
+    rw (c .symbol2 .ensures, c .before .skip-values .ensures) (list-goes (valueOf (a .depth))
+    (lift (a .text .now) (a .went)) (λ e. c .before .before .if1 .left (n .next .ensures ∙ e)))))
+    (λ t. skip-part-lts.spec (
+      next-reads.Asked,
+      next-reads.Learnt,
+      stop-reads.Asked,
+      stop-reads.Learnt,
+      symbol-reads.Asked,
+      symbol-reads.Learnt,
+      skip-list-below t,
+      skip-list.Post,
+      skip-record-below t,
+      skip-record.Post,
+      begins-part-reads.Asked,
+      begins-part-reads.Learnt,
+      any-reads.Asked,
+      any-reads.Learnt,
+    )
     (skip-part-at t)
     skip-part.Post
     (λ c κs. search needs)
     (λ c κs. search needs)
     (λ c. let n = c .before .before .before in let a = n .before .before .args in
-    rw (c .stop .ensures) (part-too-deep (a .depth) (lift (a .text .now) (a .went)) (c .before .if2 .taken) (inl (sym (n .next .ensures) ∙ c .before .before .if1 .taken))))
+    rw (c .stop .ensures) (part-too-deep (a .depth) (lift (a .text .now) (a .went)) (c .before .if2 .taken)
+    (inl (sym (n .next .ensures) ∙ c .before .before .if1 .taken))))
     (λ c κs. search needs)
     (λ c. search needs)
     (λ c κs. (omega arith, tt))
     (λ c. let n = c .before .before .before .before in let a = n .before .before .args in
-    rw (c .skip-list .ensures, c .before .symbol .ensures) (part-opens (a .depth) (lift (a .text .now) (a .went)) (search needs) (sym (n .next .ensures) ∙ c .before .before .before .if1 .taken)))
+    rw (c .skip-list .ensures, c .before .symbol .ensures) (part-opens (a .depth) (lift (a .text .now) (a .went))
+    (search needs) (sym (n .next .ensures) ∙ c .before .before .before .if1 .taken)))
     (λ c κs. search needs)
     (λ c. let n = c .before .before .before .before in let a = n .before .before .args in
-    rw (c .stop2 .ensures) (part-too-deep (a .depth) (lift (a .text .now) (a .went)) (c .before .if4 .taken) (inr (sym (n .next .ensures) ∙ c .before .before .if3 .taken))))
+    rw (c .stop2 .ensures) (part-too-deep (a .depth) (lift (a .text .now) (a .went)) (c .before .if4 .taken)
+    (inr (sym (n .next .ensures) ∙ c .before .before .if3 .taken))))
     (λ c κs. search needs)
     (λ c. search needs)
     (λ c κs. (omega arith, tt))
     (λ c. let n = c .before .before .before .before .before in let a = n .before .before .args in
-    rw (c .skip-record .ensures, c .before .symbol2 .ensures) (part-holds (a .depth) (lift (a .text .now) (a .went)) (search needs) (sym (n .next .ensures) ∙ c .before .before .before .if3 .taken)))
+    rw (c .skip-record .ensures, c .before .symbol2 .ensures) (part-holds (a .depth) (lift (a .text .now) (a .went))
+    (search needs) (sym (n .next .ensures) ∙ c .before .before .before .if3 .taken)))
     (λ c κs. search needs)
     (λ c κs. search needs)
     (λ c. let n = c .before .before .before .before .before in let a = n .before .before .args in
-    rw (c .any .ensures) (part-atom (a .depth) (lift (a .text .now) (a .went)) (λ e. c .before .before .before .before .if1 .left (n .next .ensures ∙ e)) (λ e. c .before .before .before .if3 .left (n .next .ensures ∙ e)) (rw (← n .next .ensures, ← c .before .before .begins-part .ensures) (c .before .if5 .taken))))
+    rw (c .any .ensures) (part-atom (a .depth) (lift (a .text .now) (a .went))
+    (λ e. c .before .before .before .before .if1 .left (n .next .ensures ∙ e)) (λ e. c .before .before .before .if3 .left
+    (n .next .ensures ∙ e)) (rw (← n .next .ensures, ← c .before .before .begins-part .ensures) (c .before .if5 .taken))))
     (λ c κs. search needs)
     (λ c. let n = c .before .before .before .before .before in let a = n .before .before .args in
-    rw (c .stop3 .ensures) (part-unfit (a .depth) (lift (a .text .now) (a .went)) (λ e. c .before .before .before .before .if1 .left (n .next .ensures ∙ e)) (λ e. c .before .before .before .if3 .left (n .next .ensures ∙ e)) (rw (← n .next .ensures, ← c .before .before .begins-part .ensures) (c .before .if5 .left)))))
-    (λ t. skip-record-lts.spec (next-reads.Asked, next-reads.Learnt, is-name-reads.Asked, is-name-reads.Learnt, name-reads.Asked, name-reads.Learnt, symbol-reads.Asked, symbol-reads.Learnt, skip-value-below t, skip-value.Post)
+    rw (c .stop3 .ensures) (part-unfit (a .depth) (lift (a .text .now) (a .went))
+    (λ e. c .before .before .before .before .if1 .left (n .next .ensures ∙ e)) (λ e. c .before .before .before .if3 .left
+    (n .next .ensures ∙ e)) (rw (← n .next .ensures, ← c .before .before .begins-part .ensures) (c .before .if5 .left)))))
+    (λ t. skip-record-lts.spec (
+      next-reads.Asked,
+      next-reads.Learnt,
+      is-name-reads.Asked,
+      is-name-reads.Learnt,
+      name-reads.Asked,
+      name-reads.Learnt,
+      symbol-reads.Asked,
+      symbol-reads.Learnt,
+      skip-value-below t,
+      skip-value.Post,
+    )
     (skip-record-at t)
     skip-record.Post
     skip-record-Inv-loop
@@ -158,17 +195,46 @@ unfolding partKind
     (λ c κs. search needs)
     (λ c κs. (omega arith, tt))
     (λ c κs. search needs)
-    (λ c. let k = c .before .before .before .before .before in let l = k .before .before in let a = l .before .before .args in let s = lift (a .text .now) (l .loop .w) in
-    rw (c .symbol2 .ensures, c .before .skip-value .ensures, c .before .before .symbol .ensures, c .before .before .before .name .ensures, field-then (valueOf (a .depth)) s)
-    (many-less named (fieldBy (valueOf (a .depth))) (advances named (field-moves (valueOf (a .depth)) (value-of-moves (a .depth)))) s (kind-on isName s refl (rw (← k .before .next .ensures, ← k .is-name .ensures) (c .before .before .before .before .if1 .taken)))))
-    (λ c. let k = c .before .before .before .before .before in let l = k .before .before in let a = l .before .before .args in let s = lift (a .text .now) (l .loop .w) in
-    rw (c .symbol2 .ensures, c .before .skip-value .ensures, c .before .before .symbol .ensures, c .before .before .before .name .ensures, field-then (valueOf (a .depth)) s)
-    (many-on named (fieldBy (valueOf (a .depth))) (advances named (field-moves (valueOf (a .depth)) (value-of-moves (a .depth)))) s (kind-on isName s refl (rw (← k .before .next .ensures, ← k .is-name .ensures) (c .before .before .before .before .if1 .taken))) ∙ l .loop .inv))
+    (λ c. let k = c .before .before .before .before .before in let l = k .before .before in
+    let a = l .before .before .args in let s = lift (a .text .now) (l .loop .w) in
+    rw (
+      c .symbol2 .ensures,
+      c .before .skip-value .ensures,
+      c .before .before .symbol .ensures,
+      c .before .before .before .name .ensures,
+      field-then (valueOf (a .depth)) s,
+    )
+    (many-less named (fieldBy (valueOf (a .depth))) (advances named (field-moves (valueOf (a .depth)) (value-of-moves (a .depth)))) s
+    (kind-on isName s refl (rw (← k .before .next .ensures, ← k .is-name .ensures) (c .before .before .before .before .if1 .taken)))))
+    (λ c. let k = c .before .before .before .before .before in let l = k .before .before in
+    let a = l .before .before .args in let s = lift (a .text .now) (l .loop .w) in
+    rw (
+      c .symbol2 .ensures,
+      c .before .skip-value .ensures,
+      c .before .before .symbol .ensures,
+      c .before .before .before .name .ensures,
+      field-then (valueOf (a .depth)) s,
+    )
+    (many-on named (fieldBy (valueOf (a .depth))) (advances named (field-moves (valueOf (a .depth)) (value-of-moves (a .depth)))) s
+    (kind-on isName s refl (rw (← k .before .next .ensures, ← k .is-name .ensures)
+    (c .before .before .before .before .if1 .taken))) ∙ l .loop .inv))
     (λ c κs. search needs)
     (λ c. let k = c .before .before in let l = k .before .before in let a = l .before .before .args in let s = lift (a .text .now) (l .loop .w) in
-    rw (c .symbol3 .ensures, many-off named (fieldBy (valueOf (a .depth))) (advances named (field-moves (valueOf (a .depth)) (value-of-moves (a .depth)))) s (kind-off isName s (rw (← k .before .next .ensures, ← k .is-name .ensures) (c .before .if1 .left))) ∙ l .loop .inv)
+    rw (
+      c .symbol3 .ensures,
+      many-off named (fieldBy (valueOf (a .depth)))
+          (advances named (field-moves (valueOf (a .depth)) (value-of-moves (a .depth)))) s
+          (kind-off isName s (rw (← k .before .next .ensures, ← k .is-name .ensures) (c .before .if1 .left))) ∙ l .loop .inv,
+    )
     (record-then (valueOf (a .depth)) (lift (a .text .now) (a .went)))))
-    (λ t. skip-value-lts.spec (skip-part-below t, skip-part.Post, next-reads.Asked, next-reads.Learnt, begins-part-reads.Asked, begins-part-reads.Learnt)
+    (λ t. skip-value-lts.spec (
+      skip-part-below t,
+      skip-part.Post,
+      next-reads.Asked,
+      next-reads.Learnt,
+      begins-part-reads.Asked,
+      begins-part-reads.Learnt,
+    )
     (skip-value-at t)
     skip-value.Post
     skip-value-Inv-loop
@@ -178,14 +244,19 @@ unfolding partKind
     (λ c κs. search needs)
     (λ c κs. search needs)
     (λ c κs. (omega arith, tt))
-    (λ c. let k = c .before .before in let l = k .before .before in let a = l .before .before .before .args in let s = lift (a .text .now) (l .loop .w) in
+    (λ c. let k = c .before .before in let l = k .before .before in
+    let a = l .before .before .before .args in let s = lift (a .text .now) (l .loop .w) in
     rw (c .skip-part2 .ensures)
-    (many-less beginsPart (partOf (a .depth)) (advances beginsPart (part-moves (a .depth))) s (kind-on partKind s refl (rw (← k .before .next .ensures, ← k .begins-part .ensures) (c .before .if1 .taken)))))
-    (λ c. let k = c .before .before in let l = k .before .before in let a = l .before .before .before .args in let s = lift (a .text .now) (l .loop .w) in
+    (many-less beginsPart (partOf (a .depth)) (advances beginsPart (part-moves (a .depth))) s
+    (kind-on partKind s refl (rw (← k .before .next .ensures, ← k .begins-part .ensures) (c .before .if1 .taken)))))
+    (λ c. let k = c .before .before in let l = k .before .before in
+    let a = l .before .before .before .args in let s = lift (a .text .now) (l .loop .w) in
     rw (c .skip-part2 .ensures)
-    (many-on beginsPart (partOf (a .depth)) (advances beginsPart (part-moves (a .depth))) s (kind-on partKind s refl (rw (← k .before .next .ensures, ← k .begins-part .ensures) (c .before .if1 .taken))) ∙ l .loop .inv))
+    (many-on beginsPart (partOf (a .depth)) (advances beginsPart (part-moves (a .depth))) s
+    (kind-on partKind s refl (rw (← k .before .next .ensures, ← k .begins-part .ensures) (c .before .if1 .taken))) ∙ l .loop .inv))
     (λ c. let k = c .before in let l = k .before .before in let a = l .before .before .before .args in let s = lift (a .text .now) (l .loop .w) in
-    many-off beginsPart (partOf (a .depth)) (advances beginsPart (part-moves (a .depth))) s (kind-off partKind s (rw (← k .before .next .ensures, ← k .begins-part .ensures) (c .if1 .left)))
+    many-off beginsPart (partOf (a .depth)) (advances beginsPart (part-moves (a .depth))) s
+    (kind-off partKind s (rw (← k .before .next .ensures, ← k .begins-part .ensures) (c .if1 .left)))
     ∙ l .loop .inv ∙ rw (l .before .skip-part .ensures) (value-then (a .depth) (lift (a .text .now) (a .went)))))
     λ t. skip-values-lts.spec (skip-value-below t, skip-value.Post, next-reads.Asked, next-reads.Learnt, symbol-reads.Asked, symbol-reads.Learnt)
     (skip-values-at t)
@@ -197,12 +268,17 @@ unfolding partKind
     (λ c κs. search needs)
     (λ c κs. search needs)
     (λ c κs. (omega arith, tt))
-    (λ c. let k = c .before .before in let l = k .before .before in let a = l .before .before .before .args in let s = lift (a .text .now) (l .loop .w) in
+    (λ c. let k = c .before .before in let l = k .before .before in
+    let a = l .before .before .before .args in let s = lift (a .text .now) (l .loop .w) in
     rw (c .skip-value2 .ensures, c .before .symbol .ensures, then-then s (the COMMA) (valueOf (a .depth)))
-    (many-less (isKind COMMA) (commaBy (valueOf (a .depth))) (advances (isKind COMMA) (comma-moves (valueOf (a .depth)) (value-of-moves (a .depth)))) s (is-on COMMA s (λ e. omega arith) (sym (k .before .next .ensures) ∙ k .if1 .taken))))
-    (λ c. let k = c .before .before in let l = k .before .before in let a = l .before .before .before .args in let s = lift (a .text .now) (l .loop .w) in
+    (many-less (isKind COMMA) (commaBy (valueOf (a .depth))) (advances (isKind COMMA) (comma-moves (valueOf (a .depth)) (value-of-moves (a .depth))))
+    s (is-on COMMA s (λ e. omega arith) (sym (k .before .next .ensures) ∙ k .if1 .taken))))
+    (λ c. let k = c .before .before in let l = k .before .before in
+    let a = l .before .before .before .args in let s = lift (a .text .now) (l .loop .w) in
     rw (c .skip-value2 .ensures, c .before .symbol .ensures, then-then s (the COMMA) (valueOf (a .depth)))
-    (many-on (isKind COMMA) (commaBy (valueOf (a .depth))) (advances (isKind COMMA) (comma-moves (valueOf (a .depth)) (value-of-moves (a .depth)))) s (is-on COMMA s (λ e. omega arith) (sym (k .before .next .ensures) ∙ k .if1 .taken)) ∙ l .loop .inv))
+    (many-on (isKind COMMA) (commaBy (valueOf (a .depth))) (advances (isKind COMMA) (comma-moves (valueOf (a .depth)) (value-of-moves (a .depth)))) s
+    (is-on COMMA s (λ e. omega arith) (sym (k .before .next .ensures) ∙ k .if1 .taken)) ∙ l .loop .inv))
     (λ c. let l = c .before .before in let a = l .before .before .before .args in let s = lift (a .text .now) (l .loop .w) in
-    many-off (isKind COMMA) (commaBy (valueOf (a .depth))) (advances (isKind COMMA) (comma-moves (valueOf (a .depth)) (value-of-moves (a .depth)))) s (is-off COMMA s (λ e. c .if1 .left (c .before .next .ensures ∙ e)))
+    many-off (isKind COMMA) (commaBy (valueOf (a .depth))) (advances (isKind COMMA) (comma-moves (valueOf (a .depth)) (value-of-moves (a .depth)))) s
+    (is-off COMMA s (λ e. c .if1 .left (c .before .next .ensures ∙ e)))
     ∙ l .loop .inv ∙ rw (l .before .skip-value .ensures) (values-then (valueOf (a .depth)) (lift (a .text .now) (a .went))))

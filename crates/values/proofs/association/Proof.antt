@@ -8,7 +8,8 @@ use Rattle.values.proofs.association.Tie as tie
 returns : tie.Need-returns
 returns c =
     let k = c .before in let a = k .before .before .before .before .args in
-    rw (c .symbol .ensures, k .values .ensures, k .before .assigns .ensures, k .before .before .scoped .ensures) (association-then (lift (a .text .now) (a .went)))
+    rw (c .symbol .ensures, k .values .ensures, k .before .assigns .ensures, k .before .before .scoped .ensures)
+    (association-then (lift (a .text .now) (a .went)))
 
 pub association-spec : {M : Type 1} → statement M
 association-spec =

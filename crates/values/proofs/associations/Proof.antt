@@ -23,19 +23,22 @@ loop-less : tie.Need-loop-less Inv-loop μ-loop
 unfolding associations
 loop-less c =
     let k = c .before .before in let l = k .before .before in let s = lift (l .before .before .args .text .now) (l .loop .w) in
-    rw (c .association .ensures) (many-less named association (advances named association-moves) s (kind-on isName s refl (rw (← k .before .next .ensures, ← k .is-name .ensures) (c .before .if1 .taken))))
+    rw (c .association .ensures) (many-less named association (advances named association-moves) s
+    (kind-on isName s refl (rw (← k .before .next .ensures, ← k .is-name .ensures) (c .before .if1 .taken))))
 
 loop-again : tie.Need-loop-again Inv-loop μ-loop
 unfolding associations
 loop-again c =
     let k = c .before .before in let l = k .before .before in let s = lift (l .before .before .args .text .now) (l .loop .w) in
-    rw (c .association .ensures) (many-on named association (advances named association-moves) s (kind-on isName s refl (rw (← k .before .next .ensures, ← k .is-name .ensures) (c .before .if1 .taken))) ∙ l .loop .inv)
+    rw (c .association .ensures) (many-on named association (advances named association-moves) s
+    (kind-on isName s refl (rw (← k .before .next .ensures, ← k .is-name .ensures) (c .before .if1 .taken))) ∙ l .loop .inv)
 
 returns : tie.Need-returns Inv-loop μ-loop
 unfolding associations
 returns c =
     let k = c .before in let l = k .before .before in let s = lift (l .before .before .args .text .now) (l .loop .w) in
-    many-off named association (advances named association-moves) s (kind-off isName s (rw (← k .before .next .ensures, ← k .is-name .ensures) (c .if1 .left))) ∙ l .loop .inv
+    many-off named association (advances named association-moves) s
+    (kind-off isName s (rw (← k .before .next .ensures, ← k .is-name .ensures) (c .if1 .left))) ∙ l .loop .inv
 
 pub associations-spec : {M : Type 1} → statement M
 unfolding associations

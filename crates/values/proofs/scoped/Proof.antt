@@ -22,13 +22,15 @@ loop-less : tie.Need-loop-less Inv-loop μ-loop
 loop-less c =
     let k = c .before .before in let s = lift (k .before .before .before .before .before .args .text .now) (k .before .before .loop .w) in
     rw (c .name2 .ensures, c .before .symbol .ensures, then-then s (the SCOPE) name)
-    (many-less (is SCOPE) inner (advances (is SCOPE) inner-moves) s (is-on SCOPE s (λ e. omega arith) (sym (k .before .next .ensures) ∙ k .if1 .taken)))
+    (many-less (is SCOPE) inner (advances (is SCOPE) inner-moves) s
+    (is-on SCOPE s (λ e. omega arith) (sym (k .before .next .ensures) ∙ k .if1 .taken)))
 
 loop-again : tie.Need-loop-again Inv-loop μ-loop
 loop-again c =
     let k = c .before .before in let s = lift (k .before .before .before .before .before .args .text .now) (k .before .before .loop .w) in
     rw (c .name2 .ensures, c .before .symbol .ensures, then-then s (the SCOPE) name)
-    (many-on (is SCOPE) inner (advances (is SCOPE) inner-moves) s (is-on SCOPE s (λ e. omega arith) (sym (k .before .next .ensures) ∙ k .if1 .taken)) ∙ k .before .before .loop .inv)
+    (many-on (is SCOPE) inner (advances (is SCOPE) inner-moves) s
+    (is-on SCOPE s (λ e. omega arith) (sym (k .before .next .ensures) ∙ k .if1 .taken)) ∙ k .before .before .loop .inv)
 
 returns : tie.Need-returns Inv-loop μ-loop
 returns c =
@@ -39,4 +41,5 @@ returns c =
 pub scoped-spec : {M : Type 1} → statement M
 scoped-spec =
     tie.close
-    (tie.spec Inv-loop μ-loop (λ c κs. search needs) loop-holds (λ c κs. search needs) (λ c κs. search needs) (λ c κs. search needs) loop-less loop-again returns)
+    (tie.spec Inv-loop μ-loop (λ c κs. search needs) loop-holds (λ c κs. search needs)
+    (λ c κs. search needs) (λ c κs. search needs) loop-less loop-again returns)

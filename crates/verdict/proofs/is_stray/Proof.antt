@@ -17,7 +17,12 @@ returns-2 : tie.Need-returns-2
 returns-2 c =
     let n = c .before .before .above in
     let b = c .before .before .before .before .before .before .before in
-    rw (← b .pre .0 .typed (b .args .k) (b .pre .1), ← n .ensures .0, eq-eqb (n .result) 0 (c .before .if1 .left), c .implementation-of .ensures .0)
+    rw (
+      ← b .pre .0 .typed (b .args .k) (b .pre .1),
+      ← n .ensures .0,
+      eq-eqb (n .result) 0 (c .before .if1 .left),
+      c .implementation-of .ensures .0,
+    )
 
 pub is-stray-spec : {M : Type 1} → statement M
 is-stray-spec = tie.close (tie.spec above-requires returns (λ c κs. search needs) returns-2)

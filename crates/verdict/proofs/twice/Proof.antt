@@ -11,7 +11,11 @@ returns c =
     let n = c .before .before in
     let b = n .before .before .before .before in
     let a = b .args in
-    rw (first-at (a .text .now) 1 (a .count) (a .rows .now) (a .k) (b .pre .1), ← n .number-of .ensures, ← c .before .cell .ensures) (c .note .ensures)
+    rw (
+      first-at (a .text .now) 1 (a .count) (a .rows .now) (a .k) (b .pre .1),
+      ← n .number-of .ensures,
+      ← c .before .cell .ensures,
+    ) (c .note .ensures)
 
 pub twice-spec : {M : Type 1} → statement M
 twice-spec =

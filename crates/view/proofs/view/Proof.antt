@@ -1,5 +1,6 @@
 -- `view`: one law for each way out, over the answer and the two references.
-use Rattle.common.specs.Words.{_≡_, refl, ap, _∙_, Bool, true, false, cond, _&&_, List, [], _∷_, ℕ, _+_, _*_, _-_, _<_, _≤_, arith, length, take}
+use Rattle.common.specs.Words.{_≡_, refl, ap, _∙_, Bool, true, false, cond, _&&_, List, [], _∷_, ℕ, _+_, _*_, _-_, _<_, _≤_, arith}
+use Rattle.common.specs.Words.{length, take}
 use Rattle.common.specs.Words.{drop, needs, ne-eqb, eq-eqb, lt-leb, le-leb}
 use types.Run.{OneOf, miss}
 use denote.Enum.Declared.{tagOf}
@@ -24,7 +25,8 @@ unfit Received.Empty m f e = (refl, refl)
 unfit (Received.Refused r) m f e = (refl, refl)
 
 -- an answer that is neither a message nor a gap
-rest : (a : Received) (m f : RefT (List ℕ)) → OneOf (1 ∷ 2 ∷ 3 ∷ []) (tagOf the-type a) → OneOf (0 ∷ 2 ∷ 3 ∷ []) (tagOf the-type a) →
+rest : (a : Received) (m f : RefT (List ℕ)) → OneOf (1 ∷ 2 ∷ 3 ∷ []) (tagOf the-type a) →
+    OneOf (0 ∷ 2 ∷ 3 ∷ []) (tagOf the-type a) →
     ([] ≡ viewOf a (now m) (now f)) × (f .ptr ≡ placeOf a m f)
 unfolding viewOf placeOf
 rest (Received.Message n s) m f k l = absurd (miss (1 ∷ 2 ∷ 3 ∷ []) 0 tt k)

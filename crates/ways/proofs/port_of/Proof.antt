@@ -49,7 +49,8 @@ above-requires-2 c κs =
 loop-again : tie.Need-loop-again Inv-loop μ-loop
 loop-again c =
     let l = c .before .before .before .before .before .loop in
-    let on = first-on (l .inv .0) (search needs) (search needs) (c .before .before .port-named .ensures) (c .before .if2 .left) (c .above2 .ensures .0) in
+    let on = first-on (l .inv .0) (search needs) (search needs) (c .before .before .port-named .ensures)
+    (c .before .if2 .left) (c .above2 .ensures .0) in
     (on, c .above2 .ensures .1)
 
 returns-3 : tie.Need-returns-3 Inv-loop μ-loop
@@ -58,5 +59,6 @@ returns-3 c = (first-over (c .before .loop .inv .0) (search needs), omega arith)
 pub port-of-spec : {M : Type 1} → statement M
 port-of-spec =
     tie.close
-    (tie.spec Inv-loop μ-loop above-requires loop-holds returns (λ c. search needs) port-named-requires returns-2 (λ c. search needs) above-requires-2
+    (tie.spec Inv-loop μ-loop above-requires loop-holds returns
+    (λ c. search needs) port-named-requires returns-2 (λ c. search needs) above-requires-2
     (λ c. search needs) (λ c. search needs) loop-again returns-3)

@@ -25,7 +25,8 @@ returns-2 c =
     let o = c .before .before .before in
     let b = o .before .before .before .before .before .before in
     let a = b .args in
-    property-else (a .text .now) (rowsIn (a .count) (a .rows .now)) (a .k) (a .c) (o .before .implementation-of .ensures .0) (o .own-or-given .ensures)
+    property-else (a .text .now) (rowsIn (a .count) (a .rows .now)) (a .k) (a .c)
+    (o .before .implementation-of .ensures .0) (o .own-or-given .ensures)
     (c .before .before .if1 .left)
     (rw (c .before .above .ensures .0, known-way (b .pre .0) (a .k) (b .pre .1)) at (c .on-way .ensures))
 

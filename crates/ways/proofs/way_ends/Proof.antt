@@ -37,5 +37,6 @@ returns-3 c = ends-over (c .before .loop .inv .0) (search needs)
 pub way-ends-spec : {M : Type 1} → statement M
 way-ends-spec =
     tie.close
-    (tie.spec Inv-loop μ-loop loop-holds returns (λ c. search needs) (λ c κs. search needs) returns-2 (λ c. search needs) (λ c κs. search needs)
+    (tie.spec Inv-loop μ-loop loop-holds returns (λ c. search needs)
+    (λ c κs. search needs) returns-2 (λ c. search needs) (λ c κs. search needs)
     (λ c. search needs) (λ c. search needs) loop-again returns-3)

@@ -6,14 +6,14 @@ use Rattle.window.proofs.next_number.Tie as tie
 
 returns : tie.Need-returns
 returns c =
-    let a = c .before .args in
-    let e : a .before + 1 ≡ max (a .reading) (a .before + 1) = omega (arith, c .if1 .taken) in
+    let a = c .before .before .before .before .args in
+    let e : a .before .0 + 1 ≡ max (a .reading .0) (a .before .0 + 1) = omega (arith, c .before .if1 .taken) in
     ap message e
 
 returns-2 : tie.Need-returns-2
 returns-2 c =
-    let a = c .before .args in
-    let e : a .reading ≡ max (a .reading) (a .before + 1) = omega (arith, c .if1 .left) in
+    let a = c .before .before .before .args in
+    let e : a .reading .0 ≡ max (a .reading .0) (a .before .0 + 1) = omega (arith, c .if1 .left) in
     ap message e
 
 pub next-number-spec : {M : Type 1} → statement M

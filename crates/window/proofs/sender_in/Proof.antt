@@ -12,7 +12,8 @@ tick-within : (q : Queue) (most n : ℕ) → tickOf q most n ≤ most
 unfolding tickOf
 tick-within q most n = firstBad-is (λ t. ltb (upTo q t) n) most .within
 
-sender-is : (q : Queue) (most n : ℕ) (t : Tick) → t ≡ tick (tickOf q most n) → firstBad (λ i. not (sentBy q (t .0) n i)) (q .rows) ≡ senderOf q most n
+sender-is : (q : Queue) (most n : ℕ) (t : Tick) → t ≡ tick (tickOf q most n) →
+    firstBad (λ i. not (sentBy q (t .0) n i)) (q .rows) ≡ senderOf q most n
 unfolding senderOf
 sender-is q most n t e = rw e
 

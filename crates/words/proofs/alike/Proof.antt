@@ -24,7 +24,8 @@ returns c =
     let l = c .before .before .before .before in
     let a = l .before .args in
     let j = l .loop .j in
-    sym (same-differ (a .a .now) (a .b .now) (a .p + j) (a .q + j) (a .n - j) (search needs) (search needs) (search needs) (c .if1 .taken)) ∙ l .loop .inv .0
+    sym (same-differ (a .a .now) (a .b .now) (a .p + j) (a .q + j) (a .n - j) (search needs)
+    (search needs) (search needs) (c .if1 .taken)) ∙ l .loop .inv .0
 
 loop-again : tie.Need-loop-again Inv-loop μ-loop
 loop-again c =
@@ -33,8 +34,11 @@ loop-again c =
     let j = l .loop .j in
     let n : a .n - (j + 1) ≡ a .n - j - 1 = omega arith in
     let x : a .p + (j + 1) ≡ a .p + j + 1 = omega arith in
-    let y : a .q + (j + 1) ≡ a .q + j + 1 = omega arith in
-    (rw (n, x, y) (same-more (a .a .now) (a .b .now) (a .p + j) (a .q + j) (a .n - j) (search needs) (search needs) (search needs) (c .if1 .left)) ∙ l .loop .inv .0, search needs)
+    let y : a .q + (j + 1) ≡ a .q + j + 1 = omega arith in (
+      rw (n, x, y) (same-more (a .a .now) (a .b .now) (a .p + j) (a .q + j) (a .n - j) (search needs) (search needs) (search needs) (c .if1 .left))
+          ∙ l .loop .inv .0,
+      search needs,
+    )
 
 returns-2 : tie.Need-returns-2 Inv-loop μ-loop
 unfolding same
@@ -46,4 +50,5 @@ returns-2 c =
 pub alike-spec : {M : Type 1} → statement M
 alike-spec =
     tie.close
-    (tie.spec Inv-loop μ-loop loop-holds (λ c. search needs) (λ c. search needs) (λ c. search needs) (λ c. search needs) returns (λ c. search needs) (λ c. search needs) loop-again returns-2)
+    (tie.spec Inv-loop μ-loop loop-holds (λ c. search needs) (λ c. search needs) (λ c. search needs)
+    (λ c. search needs) returns (λ c. search needs) (λ c. search needs) loop-again returns-2)

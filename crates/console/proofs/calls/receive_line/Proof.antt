@@ -1,38 +1,25 @@
--- `console::calls::receive_line`: the answer is a look's, and what is left of it the state's step on.
-use Rattle.common.specs.Words.{needs, not-true, not-false}
-use Rattle.console.specs.ReceiveCalls.{look-counts, receive-stopped, receive-left}
+-- `console::calls::receive_line`: what the running call left, and the line of its answer.
+use Rattle.common.specs.Words.{needs}
+use Rattle.plan.specs.Plan.{lentPlan}
+use Rattle.console.specs.Types.{Plan}
+use Rattle.console.specs.CallLines.{receive-left}
 use Rattle.console.proofs.calls.receive_line.Statement.{statement}
 use Rattle.console.proofs.calls.receive_line.Tie as tie
+
+abbrev planOf : tie.Start → Plan
+planOf k =
+    let a = k .args in
+    lentPlan (a .sends .now) (a .period .now) (a .deadline .now) (a .receiver .now) (a .size .now) (a .place .now) (a .tasks) (a .queues)
 
 returns : tie.Need-returns
 returns c =
     let w = c .before .before in
-    λ d on. receive-stopped _ _ _ on (not-true _ (w .before .before .if1 .taken)) (w .write-bad .ensures)
-
-receive-on-requires : tie.Need-receive-on-requires
-receive-on-requires c κs = c .before .before .before .before .pre .0 (not-false _ (c .if1 .left))
-
-left-requires : tie.Need-left-requires
-left-requires c κs = look-counts _ _ _ _ _ _ (c .before .before .before .before .receive-on .ensures)
-
-returns-2 : tie.Need-returns-2
-returns-2 c =
-    let w = c .before .before .before in
-    let o = w .before .before in
-    let a = o .before .before .before .before .before .args in
-    λ d on.
-    rw (c .left .ensures)
-    (receive-left (a .memory .now) (a .at) (a .out .now) on (not-false _ (o .before .if1 .left)) (o .receive-on .ensures) (w .write-received .ensures))
+    let o = w .before .before .before in
+    let k = o .before .before .before .before in
+    let a = k .args in
+    λ sent.
+    receive-left (a .before) (a .reading .now) (planOf k) (a .memory .now) (a .queue) (a .at) (a .out .now) sent
+    (o .receive-on .ensures) (w .write-received .ensures)
 
 pub receive-line-spec : {M : Type 1} → statement M
-receive-line-spec =
-    tie.close
-    (tie.spec
-    (λ c κs. search needs)
-    (λ c. search needs)
-    returns
-    receive-on-requires
-    (λ c κs. search needs)
-    left-requires
-    (λ c. search needs)
-    returns-2)
+receive-line-spec = tie.close (tie.spec (λ c κs. c .before .before .before .pre .0) (λ c κs. search needs) (λ c. search needs) returns)

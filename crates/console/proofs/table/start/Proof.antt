@@ -12,7 +12,7 @@ returns c =
     let n = g .before .before in
     let s = n .before .before .before in
     let a = s .before .before .before .before .args in
-    start-refused (a .desk) (a .plan) (a .memory .now) (a .out .now) _ _ (s .start .ensures .0) (s .start .ensures .1) _ _ _ _
+    start-refused (a .desk) (a .plan) (a .memory .now) (a .out .now) _ _ (s .start .ensures) _ _ _ _
     (g .answer .given .1) (n .new .ensures) (t .refuse .ensures)
 
 write-sizes-requires : tie.Need-write-sizes-requires
@@ -28,7 +28,7 @@ returns-2 c =
     let g = w .before .before .before in
     let s = g .before .before .before .before .before in
     let a = s .before .before .before .before .args in
-    start-ready (a .desk) (a .plan) (a .memory .now) (a .out .now) _ _ (s .start .ensures .0) (s .start .ensures .1) _ _ _
+    start-ready (a .desk) (a .plan) (a .memory .now) (a .out .now) _ _ (s .start .ensures) _ _ _
     (g .enum-told .given .1) (c .with-run .ensures) (w .write-sizes .ensures)
 
 pub start-spec : {M : Type 1} → statement M

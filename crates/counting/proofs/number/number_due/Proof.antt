@@ -1,19 +1,20 @@
 -- `number::number_due`: the loop keeps the sum over the rows passed, each up to the task's message.
-use Rattle.common.specs.Words.{needs, _+_, _*_, _≤_, _-_, ⊎-elim, _≡_, refl, sym, arith}
+use Rattle.common.specs.Words.{needs, _+_, _*_, _≤_, _-_, ⊎-elim, _≡_, refl, ap, sym, arith}
 use Rattle.common.specs.Totals.{sum, sum-next, sum-up}
+use Rattle.calendar.specs.Calendar.{message}
 use Rattle.plan.specs.Limits.{taskLimit, lastTick}
-use Rattle.counting.specs.Columns.{columnsAt}
+use Rattle.counting.specs.Columns.{columnsAt, numberDue}
 use Rattle.counting.specs.Bounds.{row-positive, upTo-fits}
 use Rattle.counting.specs.Until.{rowUntil, until-all}
 use Rattle.counting.proofs.number.number_due.Statement.{statement}
 use Rattle.counting.proofs.number.number_due.Tie as tie
 
 abbrev Inv-loop : tie.InvT-loop
-Inv-loop sends period deadline tasks queue at task base before sum₀ i₀ sum i =
-    (i ≤ tasks) × (sum ≡ Rattle.common.specs.Totals.sum (rowUntil (columnsAt sends period deadline tasks queue) (at .0) task) i)
+Inv-loop sends period deadline tasks queue due task base before sum₀ i₀ sum i =
+    (i ≤ tasks) × (sum ≡ Rattle.common.specs.Totals.sum (rowUntil (columnsAt sends period deadline tasks queue) (due .0) task) i)
 
 abbrev μ-loop : tie.MeasureT-loop
-μ-loop sends period deadline tasks queue at task base before sum₀ i₀ sum i = tasks - i
+μ-loop sends period deadline tasks queue due task base before sum₀ i₀ sum i = tasks - i
 
 loop-holds : tie.Need-loop-holds Inv-loop μ-loop
 unfolding sum
@@ -26,21 +27,21 @@ count-requires c κs =
 
 -- no part of the sum is more than all messages up to the tick
 part-fits : (l : tie.In-loop Inv-loop μ-loop) → let a = l .before .before .before .args in
-    let f = rowUntil (columnsAt (a .sends .now) (a .period .now) (a .deadline .now) (a .tasks) (a .queue)) (a .at .0) (a .task) in
+    let f = rowUntil (columnsAt (a .sends .now) (a .period .now) (a .deadline .now) (a .tasks) (a .queue)) (a .due .0) (a .task) in
     l .before .loop .sum + f (l .before .loop .i) ≤ taskLimit * lastTick
 part-fits l =
     let k = l .before .before .before in
     let a = k .args in
     let q = columnsAt (a .sends .now) (a .period .now) (a .deadline .now) (a .tasks) (a .queue) in
-    let f = rowUntil q (a .at .0) (a .task) in
+    let f = rowUntil q (a .due .0) (a .task) in
     let i = l .before .loop .i in
     omega (
       arith,
       l .before .loop .inv .1,
       sum-next f i,
       sum-up f (i + 1) (a .tasks) (omega arith),
-      until-all q (k .pre .0 .valid) (a .at .0) (a .task),
-      upTo-fits (k .pre .0) (a .at .0) (k .pre .1),
+      until-all q (k .pre .0 .valid) (a .due .0) (a .task),
+      upTo-fits (k .pre .0) (a .due .0) (k .pre .1),
     )
 
 add-sum : tie.Need-add-sum Inv-loop μ-loop
@@ -51,7 +52,7 @@ add-sum c =
     let a = l .before .before .before .args in
     let q = columnsAt (a .sends .now) (a .period .now) (a .deadline .now) (a .tasks) (a .queue) in
     let r = rw (u .last-counted .ensures, u .before .precedes .ensures q, l .before .before .tick-before .ensures) at (c .count .ensures) in
-    let e : rowUntil q (a .at .0) (a .task) (l .before .loop .i) ≡ c .count .result = simp (t .if1 .taken) (sym r) in
+    let e : rowUntil q (a .due .0) (a .task) (l .before .loop .i) ≡ c .count .result = simp (t .if1 .taken) (sym r) in
     omega (arith, part-fits l, e)
 
 loop-again : tie.Need-loop-again Inv-loop μ-loop
@@ -59,7 +60,7 @@ loop-again c =
     let l = c .before .before .before in
     let a = l .before .before .args in
     let q = columnsAt (a .sends .now) (a .period .now) (a .deadline .now) (a .tasks) (a .queue) in
-    let row = rowUntil q (a .at .0) (a .task) (l .loop .i) in
+    let row = rowUntil q (a .due .0) (a .task) (l .loop .i) in
     let e : c .if1 .sum ≡ l .loop .sum + row =
     ⊎-elim
     (λ w.
@@ -67,7 +68,7 @@ loop-again c =
     let e : row ≡ w .5 .result = simp (w .0 .taken) (sym r) in omega (arith, w .6, e))
     (λ w. let e : row ≡ 0 = simp (w .0 .left) in omega (arith, w .1, e))
     (c .if1 .came) in
-    omega (arith, e, sum-next (rowUntil q (a .at .0) (a .task)) (l .loop .i))
+    omega (arith, e, sum-next (rowUntil q (a .due .0) (a .task)) (l .loop .i))
 
 returns : tie.Need-returns Inv-loop μ-loop
 returns c =
@@ -75,7 +76,9 @@ returns c =
     let a = k .args in
     let q = columnsAt (a .sends .now) (a .period .now) (a .deadline .now) (a .tasks) (a .queue) in
     let e : c .before .loop .i ≡ a .tasks = omega arith in
-    omega (arith, rw e at (c .before .loop .inv .1), until-all q (k .pre .0 .valid) (a .at .0) (a .task))
+    let n : c .before .loop .sum ≡ numberDue q (a .due .0) (a .task) =
+    omega (arith, rw e at (c .before .loop .inv .1), until-all q (k .pre .0 .valid) (a .due .0) (a .task)) in
+    ap message n
 
 pub number-due-spec : {M : Type 1} → statement M
 number-due-spec =

@@ -13,8 +13,9 @@ due-requires c κs =
 returns : tie.Need-returns
 unfolding dueAt
 returns c =
-    let t = c .before .before in
-    rw (c .before .number-due .ensures, sym (t .before .due .ensures) ∙ t .if1 .taken)
+    let d = c .before .before in
+    let t = d .before in
+    rw (d .number-due .ensures, sym (t .before .due .ensures) ∙ t .if1 .taken)
 
 returns-2 : tie.Need-returns-2
 unfolding dueAt

@@ -9,7 +9,8 @@ use Rattle.digits.proofs.numbers.put_number.Tie as tie
 -- what is left to write leads to the same end
 abbrev Inv-loop : tie.InvT-loop
 Inv-loop out₀ at width number rest₀ k₀ out rest k =
-    (k ≤ width) × (length out ≡ length out₀) × (sets out at (digits (inBytes (width - k) rest)) ≡ sets out₀ at (digits (inBytes width number)))
+    (k ≤ width) × (length out ≡ length out₀)
+    × (sets out at (digits (inBytes (width - k) rest)) ≡ sets out₀ at (digits (inBytes width number)))
 
 abbrev μ-loop : tie.MeasureT-loop
 μ-loop out₀ at width number rest₀ k₀ out rest k = width - k

@@ -1,40 +1,28 @@
--- `State::receive`: a look and a step on; every look's answer can be stepped on (`look-steps`).
-use Rattle.common.specs.Words.{List, _≡_, ℕ, needs}
-use Rattle.running.specs.Known.{reads-same}
-use Rattle.running.specs.Stepping.{look-steps}
-use Rattle.mailbox.specs.Types.{Plan, State, Received, Receiving}
-use Rattle.mailbox.specs.Calls.{readingAt, look, steppedOn, receiveState}
-use Rattle.mailbox.specs.Outcomes.{receiving}
+-- `State::receive`: what the running call leaves, put together.
+use Rattle.common.specs.Words.{List, _≡_, refl, ℕ, needs}
+use Rattle.running.specs.Calls as running
+use Rattle.mailbox.specs.Types.{Plan, State, ReceivedAt}
+use Rattle.mailbox.specs.Calls.{receiveState}
+use Rattle.mailbox.specs.Outcomes.{ReceiveGives}
 use Rattle.mailbox.proofs.State.receive.Statement.{statement}
 use Rattle.mailbox.proofs.State.receive.Tie as tie
 
-made : (s : State) (p : Plan) (m : List ℕ) (q t : ℕ) (a : Received) (s′ : State) → a ≡ look s p m q t → s′ ≡ steppedOn s q t a →
-    _≡_ {A = Receiving} (record { answer = a; state = s′ }) (receiving s p m q t)
+made : (s : State) (p : Plan) (m : List ℕ) (q t : ℕ) {r : ReceivedAt} {reading : List ℕ} →
+    running.ReceiveLeaves (s .tick .0) (s .reading) p m q t r reading →
+    ReceiveGives s p m q t (record { answer = r .answer; state = record { tick = r .tick; sent = s .sent; reading = reading } })
 unfolding receiveState
-made s p m q t a s′ e f = rw (f, e)
-
--- once it has looked
-module _ (c : tie.After-received) where
-  abbrev read : tie.After-reading-of
-  read = c .before .before
-
-  abbrev start : tie.Start
-  start = read .before .before .before .before
-
-  answered : let a = start .args in c .received .result ≡ look (a .t1) (a .plan) (a .memory .now) (a .queue) (a .at .0)
-  answered =
-      let a = start .args in
-      reads-same (a .t1 .tick .0) (a .plan) (a .memory .now) (a .queue) (a .at .0) (read .reading-of .ensures) (c .received .ensures)
-
-stepped-on-requires : tie.Need-stepped-on-requires
-stepped-on-requires c κs =
-    let a = start c .args in
-    rw (answered c) (look-steps (a .t1 .tick .0) (readingAt (a .t1) (a .queue)) (a .plan) (a .memory .now) (a .queue) (a .at .0))
+made s p m q t e = rw (e .0, e .1)
 
 returns : tie.Need-returns
 returns c =
-    let a = start (c .before) .args in
-    made (a .t1) (a .plan) (a .memory .now) (a .queue) (a .at .0) _ _ (answered (c .before)) (c .stepped-on .ensures)
+    let o = c .before in
+    let a = o .before .before .before .before .before .before .before .before .before .before .before .before .args in
+    made (a .t1) (a .t2) (a .memory .now) (a .queue) (a .at .0) (o .receive-on .ensures)
 
 pub receive-spec : {M : Type 1} → statement M
-receive-spec = tie.close (tie.spec (λ c κs. search needs) (λ c κs. search needs) stepped-on-requires returns)
+receive-spec =
+    tie.close
+    (tie.spec
+    (λ c κs. search needs)
+    (λ c κs. c .before .before .before .before .before .before .before .before .before .sound .ensures)
+    returns)

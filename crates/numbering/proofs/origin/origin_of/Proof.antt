@@ -53,7 +53,8 @@ sender-at-requires c κs =
     let a = k .args in
     let q = queueAt (a .t1) (a .queue) in (
       lent (a .t1) (a .queue) (k .pre .0),
-      rw (tick-is (a .t1) (a .queue) (a .n .0) _ (b .tick-between .ensures)) (tickOf-found q (k .pre .0 .valid) lastTick (a .n .0) (k .pre .1) (k .pre .2) .1),
+      rw (tick-is (a .t1) (a .queue) (a .n .0) _ (b .tick-between .ensures))
+          (tickOf-found q (k .pre .0 .valid) lastTick (a .n .0) (k .pre .1) (k .pre .2) .1),
     )
 
 job-due-requires : tie.Need-job-due-requires

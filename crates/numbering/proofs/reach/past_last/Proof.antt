@@ -8,7 +8,8 @@ returns : tie.Need-returns
 returns c =
     let k = c .before .before in
     let a = k .args in
-    sym (lt-ltb lastTick (a .job .0 * a .period + a .after) (omega (arith, c .if1 .taken, mul-le-mul-left (a .job .0) (k .pre .0), mul-one (a .job .0))))
+    sym (lt-ltb lastTick (a .job .0 * a .period + a .after)
+    (omega (arith, c .if1 .taken, mul-le-mul-left (a .job .0) (k .pre .0), mul-one (a .job .0))))
 
 deadline-of-requires : tie.Need-deadline-of-requires
 deadline-of-requires c κs =

@@ -38,7 +38,8 @@ slots-requires : tie.Need-slots-over-requires
 slots-requires c κs =
     let h = c .before .before .before in
     let k = h .before .before .before in
-    let w = capped-within longestHyperperiod (hyperperiod (queueAt (k .args .table) (k .args .queue))) _ (sym (h .hyperperiod-of .ensures) ∙ c .before .cycle .given .1) in
+    let w = capped-within longestHyperperiod (hyperperiod (queueAt (k .args .table) (k .args .queue))) _
+    (sym (h .hyperperiod-of .ensures) ∙ c .before .cycle .given .1) in
     (checked-usable (k .pre .0) (k .args .queue) (h .before .if1 .left), rw (w .0) (w .1))
 
 returns-3 : tie.Need-returns-3

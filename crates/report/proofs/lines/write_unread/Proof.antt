@@ -22,7 +22,8 @@ returns c =
         sym (numbers-length 1 1 4 0x7f (numberOf (a .refusal .rule)) (a .refusal .place)),
         three-at (inBytes 1 0x7f) (inBytes 1 (numberOf (a .refusal .rule))) (inBytes 4 (a .refusal .place)) _ _ _ _ _ 0 2 4 12
             (r .put-number .ensures) (rw (n .rule-number .ensures) at (q .put-number2 .ensures)) (p .put-number3 .ensures) (e .end-line .ensures)
-            (omega (arith, bytes-length 1 0x7f)) (omega (arith, bytes-length 1 (numberOf (a .refusal .rule)))) (omega (arith, bytes-length 4 (a .refusal .place))),
+            (omega (arith, bytes-length 1 0x7f)) (omega (arith, bytes-length 1 (numberOf (a .refusal .rule))))
+            (omega (arith, bytes-length 4 (a .refusal .place))),
       ),
     )
 

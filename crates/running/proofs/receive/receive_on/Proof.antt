@@ -1,162 +1,37 @@
--- `receive::receive_on`: by the verdict, by the window's last number, and by the number that the slot holds. The steps of a look are proved
--- for any plan; the code's plan is the one that its lent columns make.
-use Rattle.common.specs.Words.{cond, List, _≡_, sym, _∙_, ℕ, _+_, _<_, _≤_, max, arith, ltb, needs, lt-ltb, le-ltb, eq-eqb, ne-eqb}
-use Rattle.model.specs.Model.{receiverPeriod, upTo, senderOf}
-use Rattle.calendar.specs.Calendar.{message, slot}
-use Rattle.plan.specs.Limits.{taskLimit, lastTick, payloadBytes}
-use Rattle.plan.specs.Plan.{lentPlan, queueAt, Usable}
-use Rattle.plan.specs.Sound.{usable}
-use Rattle.plan.specs.Verdicts.{verdict, outcome, by-verdict}
-use Rattle.counting.specs.Columns.{planColumns, lent, senderOf-columns}
-use Rattle.slots.specs.Slots.{numberIn}
-use Rattle.judge.specs.Accepted.{ReceiveTaken, receiver-fits, receive-taken}
-use Rattle.window.specs.Window.{planWindow, high-within, window-first, window-last, before-fits}
-use Rattle.running.specs.Types.{Number, Slot, Plan, Verdict, Received, Window}
-use Rattle.running.specs.Calls.{receiveLines, slotFor, found, accepted, look}
-use Rattle.running.specs.Bounds.{slots-small, slot-inside}
+-- `receive::receive_on`: a look and a step on; every look's answer can be stepped on (`look-steps`).
+use Rattle.common.specs.Words.{List, _≡_, refl, ℕ, getD, needs}
+use Rattle.calendar.specs.Calendar.{tick}
+use Rattle.plan.specs.Plan.{lentPlan}
+use Rattle.running.specs.Types.{Tick, Plan, Received}
+use Rattle.running.specs.Calls.{look, readTick, readPlaces, ReceiveLeaves}
+use Rattle.running.specs.Stepping.{look-steps}
 use Rattle.running.proofs.receive.receive_on.Statement.{statement}
 use Rattle.running.proofs.receive.receive_on.Tie as tie
 
-module _ (p : Plan) (m : List ℕ) (q : ℕ) where
-  -- what the slot of number n says
-  module _ (n : Number) {held : Number} {at : Slot} (a : at ≡ slot (slotFor p q (n .0))) (b : held ≡ message (numberIn payloadBytes m (at .0))) where
-    holds : held .0 ≡ numberIn payloadBytes m (slotFor p q (n .0))
-    holds = rw (b, a)
-
-    is-message : held .0 ≡ n .0 → Received.Message n at ≡ found p m q (n .0)
-    unfolding found
-    is-message e = rw (eq-eqb _ _ (sym holds ∙ e), a)
-
-    is-gap : (held .0 ≡ n .0 → ⊥) → {row : ℕ} → row ≡ senderOf (planColumns p q) lastTick (n .0) → Received.Gap n row ≡ found p m q (n .0)
-    unfolding found
-    is-gap d e =
-        rw (ne-eqb (numberIn payloadBytes m (slotFor p q (n .0))) (n .0) (λ f. d (holds ∙ f)), e, senderOf-columns p q lastTick (n .0))
-
-  module _ (t : ℕ) where
-    -- the verdict decides
-    decides : (before reading : ℕ) {v : Verdict} → v ≡ verdict (receiveLines before p m q t) → (told : Verdict) → v ≡ told →
-        outcome told Received.Refused (accepted reading p m q t) ≡ look before reading p m q t
-    unfolding look
-    decides before reading e told g =
-        rw (← g, e) (sym (by-verdict (receiveLines before p m q t) Received.Refused (accepted reading p m q t)))
-
-    -- and then the window w and the next number n
-    module _ {w : Window} {n : Number} (reading : ℕ) (a : w ≡ planWindow p q t) (b : n ≡ message (max reading (w .before + 1))) where
-      chosen : accepted reading p m q t ≡ cond (ltb (w .end) (n .0)) Received.Empty (found p m q (n .0))
-      chosen = rw (b, a, window-first p q t, window-last p q t)
-
-      in-window : n .0 ≤ w .end → (upTo (planColumns p q) (w .low .0) < n .0) × (n .0 ≤ upTo (planColumns p q) (w .high .0))
-      in-window h =
-          let c : w .before ≡ upTo (planColumns p q) (w .low .0) = rw a in
-          let d : w .end ≡ upTo (planColumns p q) (w .high .0) = rw a in
-          let e : n .0 ≡ max reading (w .before + 1) = rw b in
-          (omega (arith, c, e), omega (arith, d))
-
--- ## The code's records
+made : (before : ℕ) (reading : List ℕ) (p : Plan) (m : List ℕ) (q t : ℕ) {a : Received} {after : Tick} {reading′ : List ℕ} →
+    a ≡ look before (getD reading q 0) p m q t → (after ≡ tick (readTick a before t)) × (reading′ ≡ readPlaces a reading q) →
+    ReceiveLeaves before reading p m q t (record { answer = a; tick = after }) reading′
+made before reading p m q t e f = rw (f .0, f .1, e) (refl, refl)
 
 abbrev planOf : tie.Start → Plan
 planOf k =
     let a = k .args in
     lentPlan (a .sends .now) (a .period .now) (a .deadline .now) (a .receiver .now) (a .size .now) (a .place .now) (a .tasks) (a .queues)
 
--- after a clear verdict
-module _ (t : tie.After-enum-told) where
-  abbrev start : tie.Start
-  start = t .before .before .before .before
-
-  taken : let a = start .args in ReceiveTaken (a .last .0) (planOf start) (a .memory .now) (a .queue) (a .at .0)
-  taken = receive-taken _ (planOf start) _ _ _ (t .before .before .judge-receive .ensures) (t .enum-told .given .1)
-
-  known : Usable (planOf start) (start .args .queue)
-  known = usable (taken .ground .sound) _ (taken .queue)
-
-  row-fits : queueAt (planOf start) (start .args .queue) .receiver < taskLimit
-  row-fits = omega (arith, known .valid .receiver-row, known .tasks-fit)
-
--- after the next number is reckoned
-module _ (n : tie.After-next-number) where
-  abbrev clear : tie.After-enum-told
-  clear = n .before .before .before .before
-
-  -- what the code then chooses is what a look answers
-  looks : let a = start clear .args in let p = planOf (start clear) in let next = n .next-number .result .0 in (r : Received) →
-      r ≡ cond (ltb (n .before .window-at .result .end) next) Received.Empty (found p (a .memory .now) (a .queue) next) →
-      r ≡ look (a .last .0) (a .reading) p (a .memory .now) (a .queue) (a .at .0)
-  looks r e =
-      let p = planOf (start clear) in
-      let a = start clear .args in
-      e ∙ sym (chosen p _ _ _ _ (n .before .window-at .ensures) (n .next-number .ensures))
-      ∙ decides p (a .memory .now) (a .queue) (a .at .0) (a .last .0) (a .reading) (clear .before .before .judge-receive .ensures) Verdict.Clear
-      (clear .enum-told .given .1)
-
--- after it is found within the window
-abbrev within : tie.Else1 → tie.After-enum-told
-within i = clear (i .before .before .before)
+step-on-requires : tie.Need-step-on-requires
+step-on-requires c κs =
+    let o = c .before in
+    let k = o .before .before .before in
+    let a = k .args in
+    rw (o .look-on .ensures)
+    (look-steps (a .before .0) (getD (a .reading .now) (a .queue) 0) (planOf k) (a .memory .now) (a .queue) (a .at .0))
 
 returns : tie.Need-returns
 returns c =
-    let k = c .before .before .before in
-    let a = k .before .before .args in
-    decides (planOf (k .before .before)) (a .memory .now) (a .queue) (a .at .0) (a .last .0) (a .reading) (k .judge-receive .ensures)
-    (Verdict.Refused _) (c .before .verdict .given .1)
-
-window-at-requires : tie.Need-window-at-requires
-window-at-requires c κs =
-    let t = c .before .before in
-    (lent (planOf (start t)) _ (known t), receiver-fits (known t) .0, taken t .tick-within)
-
-next-number-requires : tie.Need-next-number-requires
-next-number-requires c κs =
-    let t = c .before .before .before in
-    rw (c .window-at .ensures) (before-fits (planOf (start t)) _ _ (known t) (taken t .tick-within))
-
-returns-3 : tie.Need-returns-3
-returns-3 c =
-    let h = c .before .before .before in
-    let i = h .before .before .before .before in
-    looks (i .before .before .before) _
-    (rw (le-ltb _ _ (i .if1 .left)) (is-message _ _ _ _ (h .before .slot-for .ensures) (h .number-in .ensures) (c .if2 .taken)))
-
-sender-in-requires : tie.Need-sender-in-requires
-sender-in-requires c κs =
-    let i = c .before .before .before .before .before .before .before in
-    let n = i .before .before .before in
-    let t = clear n in
-    let p = planOf (start t) in
-    let a = start t .args in
-    let o = in-window p (a .memory .now) (a .queue) (a .at .0) _ (n .before .window-at .ensures) (n .next-number .ensures) (i .if1 .left) in
-    let high = high-within (receiverPeriod (queueAt p (a .queue))) (a .at .0) in
-    (lent p _ (known t), rw (n .before .window-at .ensures) (omega (arith, taken t .tick-within, high)), o .0, o .1)
-
-returns-4 : tie.Need-returns-4
-returns-4 c =
-    let j = c .before in
-    let h = j .before .before .before in
-    let i = h .before .before .before .before in
-    looks (i .before .before .before) _
-    (rw (le-ltb _ _ (i .if1 .left)) (is-gap _ _ _ _ (h .before .slot-for .ensures) (h .number-in .ensures) (j .if2 .left) (c .sender-in .ensures)))
+    let o = c .before .before in
+    let k = o .before .before .before in
+    let a = k .args in
+    made (a .before .0) (a .reading .now) (planOf k) (a .memory .now) (a .queue) (a .at .0) (o .look-on .ensures) (c .step-on .ensures)
 
 pub receive-on-spec : {M : Type 1} → statement M
-receive-on-spec =
-    tie.close
-    (tie.spec
-    (λ c κs. search needs)
-    (λ c. search needs)
-    returns
-    (λ c. search needs)
-    (λ c. let f = known c .queue-fits in search needs)
-    (λ c. known c .queue-fits)
-    (λ c. let f = row-fits (c .before) in search needs)
-    (λ c. row-fits (c .before))
-    window-at-requires
-    next-number-requires
-    (λ c. looks (c .before .before .before) _ (rw (lt-ltb _ _ (c .if1 .taken))))
-    (λ c. let f = known (within c) .queue-fits in search needs)
-    (λ c. known (within c) .queue-fits)
-    (λ c. let f = known (within (c .before)) .queue-fits in search needs)
-    (λ c. known (within (c .before)) .queue-fits)
-    (λ c κs. let x = taken (within (c .before .before)) in slots-small (x .ground .sound) _ (x .queue))
-    (λ c κs. let x = taken (within (c .before .before .before)) in rw (c .slot-for .ensures) (slot-inside (x .ground) _ (x .queue) _))
-    returns-3
-    sender-in-requires
-    returns-4)
+receive-on-spec = tie.close (tie.spec (λ c κs. c .before .before .pre) step-on-requires returns)

@@ -18,13 +18,15 @@ returns c =
 messages-requires : tie.Need-messages-in-requires
 messages-requires c κs =
     let k = c .before .before .before in
-    let w = capped-within longestHyperperiod (hyperperiod (queueAt (k .before .args .plan) (k .before .args .queue))) _ (sym (k .hyperperiod-of .ensures) ∙ c .before .cycle .given .1) in
+    let w = capped-within longestHyperperiod (hyperperiod (queueAt (k .before .args .plan) (k .before .args .queue))) _
+    (sym (k .hyperperiod-of .ensures) ∙ c .before .cycle .given .1) in
     (k .before .pre, rw (w .0) (w .1))
 
 returns-2 : tie.Need-returns-2
 returns-2 c =
     let k = c .before .before .before .before in
-    let w = capped-within longestHyperperiod (hyperperiod (queueAt (k .before .args .plan) (k .before .args .queue))) _ (sym (k .hyperperiod-of .ensures) ∙ c .before .before .cycle .given .1) in
+    let w = capped-within longestHyperperiod (hyperperiod (queueAt (k .before .args .plan) (k .before .args .queue))) _
+    (sym (k .hyperperiod-of .ensures) ∙ c .before .before .cycle .given .1) in
     let h = w .1 in
     rw (c .messages-in .ensures, w .0) (search tests)
 

@@ -11,7 +11,8 @@ use Rattle.sizing.proofs.cycle.cycle_short.Tie as tie
 returns : tie.Need-returns
 returns c =
     let k = c .before .before in
-    let w = capped-within longestHyperperiod (hyperperiod (queueAt (k .before .args .plan) (k .before .args .queue))) _ (sym (k .hyperperiod-of .ensures) ∙ c .enum-told .given .1) in
+    let w = capped-within longestHyperperiod (hyperperiod (queueAt (k .before .args .plan) (k .before .args .queue))) _
+    (sym (k .hyperperiod-of .ensures) ∙ c .enum-told .given .1) in
     let h = w .1 in
     search tests
 

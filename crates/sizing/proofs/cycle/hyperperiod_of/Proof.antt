@@ -40,8 +40,11 @@ joined-requires c κs =
     let l = c .before .before .before in
     let a = l .before .before .before .args in
     let u = l .before .before .before .pre in
-    let q = queueAt (a .t1) (a .queue) in
-    (omega (arith, l .loop .inv .1, multiple-pos q (u .valid) (l .loop .i) (omega arith)), period-pos q (u .valid) (l .loop .i) (omega arith), l .loop .inv .2)
+    let q = queueAt (a .t1) (a .queue) in (
+      omega (arith, l .loop .inv .1, multiple-pos q (u .valid) (l .loop .i) (omega arith)),
+      period-pos q (u .valid) (l .loop .i) (omega arith),
+      l .loop .inv .2,
+    )
 
 returns : tie.Need-returns Inv-loop μ-loop
 unfolding hyperperiod
@@ -55,7 +58,12 @@ returns c =
     let over : longestHyperperiod < cond (q .sends (l .loop .i)) (lcm m (q .period (l .loop .i))) m =
     capped-over longestHyperperiod _ (sym (k .joined .ensures) ∙ c .enum-told .given .1) in
     let h : longestHyperperiod < multiple q (q .rows) =
-    omega (arith, rw (l .loop .inv .1) at over, next q (l .loop .i), multiple-mono q (u .valid) (l .loop .i + 1) (q .rows) (omega arith) (le-refl _) .0) in
+    omega (
+      arith,
+      rw (l .loop .inv .1) at over,
+      next q (l .loop .i),
+      multiple-mono q (u .valid) (l .loop .i + 1) (q .rows) (omega arith) (le-refl _) .0,
+    ) in
     search tests
 
 loop-again : tie.Need-loop-again Inv-loop μ-loop
@@ -65,7 +73,8 @@ loop-again c =
     let a = l .before .before .before .args in
     let q = queueAt (a .t1) (a .queue) in
     let m = l .loop .multiple in
-    let w = capped-within longestHyperperiod (cond (q .sends (l .loop .i)) (lcm m (q .period (l .loop .i))) m) _ (sym (k .joined .ensures) ∙ c .before .next .given .1) in
+    let w = capped-within longestHyperperiod (cond (q .sends (l .loop .i)) (lcm m (q .period (l .loop .i))) m) _
+    (sym (k .joined .ensures) ∙ c .before .next .given .1) in
     (omega arith, w .0 ∙ rw (l .loop .inv .1) (sym (next q (l .loop .i))), omega (arith, w .0, w .1))
 
 returns-2 : tie.Need-returns-2 Inv-loop μ-loop

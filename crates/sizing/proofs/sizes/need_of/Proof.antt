@@ -10,11 +10,12 @@ number-requires c κs =
 
 sub-result : tie.Need-sub-result
 sub-result c =
-    let d = c .before in
-    rw (c .number-due .ensures, d .deadline-of .ensures) (d .before .before .before .pre .3)
+    let n = c .before in
+    let d = n .before in
+    rw (n .number-due .ensures, d .deadline-of .ensures) (d .before .before .before .pre .3)
 
 returns : tie.Need-returns
-returns c = rw (c .number-due .ensures, c .before .deadline-of .ensures)
+returns c = let n = c .before in rw (n .number-due .ensures, n .before .deadline-of .ensures)
 
 pub need-of-spec : {M : Type 1} → statement M
 need-of-spec =

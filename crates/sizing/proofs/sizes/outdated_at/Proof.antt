@@ -1,9 +1,8 @@
--- `sizing::sizes::outdated_at`: the horizon, and with it the count, stays where it is until a chart period has passed.
-use Rattle.common.specs.Words.{_≤_, arith, _≡_, ap, needs}
-use Rattle.model.specs.Model.{upTo}
+-- `sizing::sizes::outdated_at`: by whether what is known still holds; the horizon is not after the release, so its count fits.
+use Rattle.common.specs.Words.{_≤_, arith, _≡_, ap, needs, lt-ltb, le-ltb}
 use Rattle.calendar.specs.declared.Tick.{Tick}
-use Rattle.counting.specs.Columns.{columnsAt}
-use Rattle.sizing.specs.Needs.{horizonFor, horizon-back, horizon-ahead, horizon-stays}
+use Rattle.sizing.specs.Needs.{horizonFor, horizon-back}
+use Rattle.sizing.specs.Outdated.{outdatedNext}
 use Rattle.sizing.proofs.sizes.outdated_at.Statement.{statement}
 use Rattle.sizing.proofs.sizes.outdated_at.Tie as tie
 
@@ -26,15 +25,16 @@ add-wanted c = omega (arith, back (c .before .before), start (c .before .before)
 add-chart : tie.Need-add-t14
 add-chart c = omega (arith, back (c .before .before), start (c .before .before) .pre)
 
+returns : tie.Need-returns
+unfolding outdatedNext
+returns c = rw (lt-ltb _ _ (c .if1 .taken))
+
 returns-2 : tie.Need-returns-2
+unfolding outdatedNext
 returns-2 c =
     let h = c .before .before in
-    let a = start h .args in
-    let q = columnsAt (a .sends .now) (a .period .now) (a .deadline .now) (a .tasks) (a .queue) in
-    let p = start h .pre .1 in
-    rw (c .before .up-to .ensures, h .horizon-at .ensures)
-    (horizon-ahead (a .chart) (a .wanted) (a .release .0) p, λ r f g. ap (upTo q) (horizon-stays (a .chart) (a .wanted) (a .release .0) r p f g))
+    rw (c .before .up-to .ensures, h .horizon-at .ensures, le-ltb _ _ (h .before .if1 .left))
 
 pub outdated-at-spec : {M : Type 1} → statement M
 outdated-at-spec =
-    tie.close (tie.spec (λ c. search needs) (λ c κs. search needs) up-to-requires add-wanted add-chart returns-2)
+    tie.close (tie.spec returns (λ c κs. search needs) up-to-requires add-wanted add-chart returns-2)

@@ -7,6 +7,7 @@ use Rattle.plan.specs.Limits.{lastTick, longestPeriod, longestHyperperiod}
 use Rattle.counting.specs.Columns.{columnsAt}
 use Rattle.counting.specs.Bounds.{row-positive}
 use Rattle.sizing.specs.Needs.{horizonFor, needFor, OutdatedFrom, outdated-less}
+use Rattle.sizing.specs.Outdated.{outdated-next}
 use Rattle.sizing.proofs.sizes.row_slots.Statement.{statement}
 use Rattle.sizing.proofs.sizes.row_slots.Tie as tie
 
@@ -14,7 +15,7 @@ abbrev Inv-loop : tie.InvT-loop
 Inv-loop sends period deadline tasks queue chart wanted task ticks jobs most₀ outdated₀ k₀ most outdated k =
     let q = columnsAt sends period deadline tasks queue in
     (k ≤ jobs) × (most ≡ Rattle.common.specs.Totals.most (λ k. needFor q chart wanted task (jobs + k)) k)
-    × OutdatedFrom q chart wanted (releaseOf q task (jobs + k)) (outdated .until) (outdated .count)
+    × OutdatedFrom q chart wanted (releaseOf q task (jobs + k)) (outdated .until .0) (outdated .count)
 
 abbrev μ-loop : tie.MeasureT-loop
 μ-loop sends period deadline tasks queue chart wanted task ticks jobs most₀ outdated₀ k₀ most outdated k = jobs - k
@@ -70,14 +71,20 @@ outdated-requires : tie.Need-outdated-at-requires Inv-loop μ-loop
 outdated-requires c κs =
     let l = c .before .before in
     let p = start l .pre in
-    rw (c .release-of .ensures) (p .0, p .1, p .2, p .3, omega (arith, within l), l .before .loop .inv .2)
+    rw (c .release-of .ensures) (p .0, p .1, p .2, p .3, omega (arith, within l))
 
 -- what is outdated at the job's release
 known : (c : tie.After-outdated-at Inv-loop μ-loop) → let l = c .before .before .before in let a = start l .args in
     (upTo (columns l) (horizonFor (a .chart) (a .wanted) (releaseOf (columns l) (task l) (job l))) ≡ c .outdated-at .result .count)
-    × OutdatedFrom (columns l) (a .chart) (a .wanted) (releaseOf (columns l) (task l) (job l)) (c .outdated-at .result .until) (c .outdated-at .result .count)
+    × OutdatedFrom (columns l) (a .chart) (a .wanted) (releaseOf (columns l) (task l) (job l)) (c .outdated-at .result .until .0)
+    (c .outdated-at .result .count)
 known c =
-    let e = rw (c .before .release-of .ensures) at (c .outdated-at .ensures) in
+    let l = c .before .before .before in
+    let a = start l .args in
+    let p = start l .pre in
+    let r = releaseOf (columns l) (task l) (job l) in
+    let k = outdated-next (columns l) (a .chart) (a .wanted) r (l .before .loop .outdated) (p .1) (l .before .loop .inv .2) in
+    let e = rw (← rw (c .before .release-of .ensures) at (c .outdated-at .ensures)) at k in
     (e .1 _ (le-refl _) (e .0), e .1)
 
 need-requires : tie.Need-need-of-requires Inv-loop μ-loop

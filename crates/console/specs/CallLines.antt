@@ -1,0 +1,91 @@
+-- Frames 04 and 05 as the code takes them: what a call leaves of the columns that it is lent makes the call of the definition, and a call of
+-- the definition makes the desk's turn.
+use Rattle.common.specs.Words.{ℕ, _≤_, arith, Bool, true, false, cond, _&&_, List, [], _≡_, refl, sym, ap, _∙_, length, length-take, length-drop, sets}
+use Rattle.plan.specs.Limits.{payloadBytes}
+use Rattle.slots.specs.Slots as slots
+use Rattle.running.specs.Calls as running
+use Rattle.running.specs.View.{slotInside, fillerFits, viewOf}
+use Rattle.mailbox.specs.Calls.{sendState, receiveState}
+use Rattle.frames.specs.Answers.{badBytes, messageBytes}
+use Rattle.frames.specs.Frames.{frameOf, payloadIn}
+use Rattle.frames.specs.Writing.{Written}
+use Rattle.console.specs.Types.{Tick, Number, Slot, Plan, State, SentAt, Received, ReceivedAt, Frame, Desk, Stepped, Called}
+use Rattle.console.specs.Desk.{Call, unmoved, sentBytes, sendCall, filler, receivedBytes, receiveCall, callOf, lineCall, callTurn, withState}
+use Rattle.console.specs.Desk.{isCall, tableTurn, bytesTurn, Takes}
+use Rattle.console.specs.Turns.{frame-taken}
+
+abbrev pub stateOf : Tick → List ℕ → List ℕ → State
+stateOf before sent reading = record { tick = before; sent = sent; reading = reading }
+
+-- a function that takes a call leaves these columns, this memory and this buffer
+abbrev pub Leaves : Call → List ℕ → Called → List ℕ → List ℕ → List ℕ → List ℕ → Type 0
+Leaves c out r sent reading memory after =
+    (stateOf (r .tick) sent reading ≡ c .state) × (r .written ≡ length (c .answer)) × (memory ≡ c .memory) × (after ≡ sets out 0 (c .answer))
+
+-- the desk's turn
+pub turn-left : (d : Desk) (m payload out : List ℕ) (f : Frame) {r : Called} {sent reading memory after : List ℕ} →
+    Leaves (lineCall (d .running) (d .plan) (d .state) m payload f) out r sent reading memory after →
+    Takes (callTurn d m payload f) out (record { desk = withState d (stateOf (r .tick) sent reading); written = r .written }) memory after
+unfolding callTurn
+turn-left d m payload out f e = (rw (e .0, e .1), e .2, e .3)
+
+-- and so the turn of a line's bytes, by what its frame is
+module _ (d : Desk) (m bytes out : List ℕ) {f : Frame} {b : Bool} {memory after : List ℕ} (framed : f ≡ frameOf bytes) (told : b ≡ isCall f) where
+  pub call-taken : {payload : List ℕ} {r : Called} {sent reading : List ℕ} → payload ≡ payloadIn bytes → b ≡ true →
+      Leaves (lineCall (d .running) (d .plan) (d .state) m payload f) out r sent reading memory after →
+      Takes (bytesTurn d m bytes) out (record { desk = withState d (stateOf (r .tick) sent reading); written = r .written }) memory after
+  call-taken p h e = frame-taken d m bytes out framed p (rw (sym told ∙ h) (turn-left d m _ out f e))
+
+  pub table-taken : {whole : Desk} {r : Stepped} → whole ≡ d → b ≡ false → Takes (tableTurn whole m f) out r memory after →
+      Takes (bytesTurn d m bytes) out r memory after
+  table-taken g h e = frame-taken d m bytes out {payload = payloadIn bytes} framed refl (rw (sym told ∙ h) (rw g at e))
+
+-- a line that changes nothing
+pub bad-left : (before : Tick) (sent reading m out : List ℕ) {n : ℕ} {after : List ℕ} → Written badBytes out n after →
+    Leaves (unmoved (stateOf before sent reading) m) out (record { tick = before; written = n }) sent reading m after
+bad-left before sent reading m out w = (refl, w .0, refl, w .1)
+
+-- ## 04
+
+pub send-left : (before : Tick) (sent : List ℕ) (p : Plan) (m : List ℕ) (q i : ℕ) (t : Tick) (payload out reading : List ℕ) {r : SentAt}
+    {sent′ memory : List ℕ} {n : ℕ} {after : List ℕ} → running.SendLeaves (before .0) sent p m q i (t .0) payload r sent′ memory →
+    Written (sentBytes (r .answer)) out n after →
+    Leaves (sendCall p (stateOf before sent reading) m q i t payload) out (record { tick = r .tick; written = n }) sent′ reading memory after
+unfolding sendState
+send-left before sent p m q i t payload out reading e w = let l = rw (e .0) at w in (rw (e .0, e .1), l .0, e .2, l .1)
+
+-- ## 05
+
+-- a view shows no more than a payload's bytes
+pub view-short : (a : Received) (m : List ℕ) → length (viewOf a m filler) ≤ payloadBytes
+unfolding viewOf
+view-short (Received.Message n s) m = go (fillerFits filler && slotInside m (s .0))
+  where
+    go : (b : Bool) → length (cond b (slots.payloadIn payloadBytes m (s .0)) []) ≤ payloadBytes
+    go true = simp (length-take, length-drop) (omega arith)
+    go false = omega arith
+view-short (Received.Gap n i) m = omega arith
+view-short Received.Empty m = omega arith
+view-short (Received.Refused r) m = omega arith
+
+pub message-line : (a : Received) (n : Number) (s : Slot) (m payload out after : List ℕ) (k : ℕ) → a ≡ Received.Message n s →
+    payload ≡ viewOf (Received.Message n s) m filler → Written (messageBytes (n .0) payload) out k after → Written (receivedBytes m a) out k after
+message-line a n s m payload out after k e f w = rw e (rw f at w)
+
+pub receive-left : (before : Tick) (reading : List ℕ) (p : Plan) (m : List ℕ) (q : ℕ) (t : Tick) (out sent : List ℕ) {r : ReceivedAt}
+    {reading′ : List ℕ} {n : ℕ} {after : List ℕ} → running.ReceiveLeaves (before .0) reading p m q (t .0) r reading′ →
+    Written (receivedBytes m (r .answer)) out n after →
+    Leaves (receiveCall p (stateOf before sent reading) m q t) out (record { tick = r .tick; written = n }) sent reading′ m after
+unfolding receiveState
+receive-left before reading p m q t out sent e w = let l = rw (e .0) at w in (rw (e .0, e .1), l .0, refl, l .1)
+
+-- ## Neither, where the code has told it from both
+
+pub other-call : (p : Plan) (s : State) (m payload : List ℕ) (f : Frame) → ((q i : ℕ) (t : Tick) → f ≡ Frame.Send q i t → ⊥) →
+    ((q : ℕ) (t : Tick) → f ≡ Frame.Receive q t → ⊥) → callOf p s m payload f ≡ unmoved s m
+other-call p s m payload (Frame.Task period deadline) a b = refl
+other-call p s m payload (Frame.Queue receiver mask) a b = refl
+other-call p s m payload Frame.Go a b = refl
+other-call p s m payload (Frame.Send q i t) a b = absurd (a q i t refl)
+other-call p s m payload (Frame.Receive q t) a b = absurd (b q t refl)
+other-call p s m payload Frame.Bad a b = refl
