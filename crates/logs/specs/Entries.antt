@@ -7,12 +7,13 @@ use Rattle.plan.specs.Plan.{queueAt}
 use Rattle.plan.specs.Says.{Said}
 use Rattle.mailbox.specs.Calls.{receivingJob}
 use Rattle.mailbox.specs.Says.{sentSays}
-use Rattle.frames.specs.Answers.{messageBytes, gapBytes, lineOf}
+use Rattle.frames.specs.Answers.{lineOf}
 use Rattle.console.specs.Desk.{sentBytes, filler, receivedBytes}
-use Rattle.history.specs.History.{send, receive, World, sendSays, receiveSays, Sends, accepted, Reading, readings, reads}
+use Rattle.history.specs.History.{send, receive, World, sendSays, receiveSays, Sends, accepted, readings, reads}
 use Rattle.logs.specs.Types.{Tick, Plan, Sent, Received, Frame}
 use Rattle.logs.specs.Said.{frameIn, payloadOf, codeIn, saidIn, receivedTold}
 use Rattle.logs.specs.Log.{Entry, Log, Stores, StoredIn, asks, tells, linesTo, Ends, EndedIn}
+use Rattle.logs.specs.Session.{lineFor}
 use Rattle.logs.specs.Widths.{send-fits, receive-fits}
 use Rattle.logs.specs.ReadBack.{sent-back, received-back}
 use Rattle.logs.specs.Turns.{Quiet}
@@ -143,16 +144,6 @@ module _ (p : Plan) (w : World) (e : Entry) (q i : ℕ) (t : Tick) (asked : fram
   sent-lines r k = rw asked
 
 -- ## A 05 that is answered by a receive
-
-abbrev pub readingBytes : Received → List ℕ → List ℕ
-readingBytes (Received.Message n at) shown = messageBytes (n .0) shown
-readingBytes (Received.Gap n row) shown = gapBytes (n .0) row
-readingBytes Received.Empty shown = []
-readingBytes (Received.Refused r) shown = []
-
--- the line of a reading
-abbrev pub lineFor : Reading → List ℕ
-lineFor r = lineOf (readingBytes (r .answer) (r .shown))
 
 module _ (p : Plan) (w : World) (e : Entry) (q : ℕ) (t : Tick) (asked : frameIn (e .line) ≡ Frame.Receive q t)
     (answered : e .answer ≡ lineOf (receivedBytes (w .memory) (receiveSays p w q (t .0)))) where

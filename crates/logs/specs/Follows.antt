@@ -12,25 +12,12 @@ use Rattle.history.specs.History.{history, SentIn, Sends, reads, readBy, ReadTo
 use Rattle.history.specs.Lists.{goOn-append}
 use Rattle.logs.specs.Types.{Tick, Plan, Started, Received, Frame, Desk}
 use Rattle.logs.specs.Said.{frameIn, payloadOf}
-use Rattle.logs.specs.Log.{Entry, Log, logOf, opened, callOf, callsIn, Stores, StoredIn, linesTo, Ends, EndedIn}
+use Rattle.logs.specs.Log.{Entry, Log, logOf, opened, callMade, callsIn, Stores, StoredIn, linesTo, Ends, EndedIn}
+use Rattle.logs.specs.Session.{lineFor, stateAndMemory, Runs}
 use Rattle.logs.specs.Frames.{sending, receiving, line-turn}
 use Rattle.logs.specs.Turns.{Acts, sends, receives, idles, running-acts, Quiet, Waits, starts, waits, waiting}
-use Rattle.logs.specs.Entries.{stored-append, ended-append, lines-append, quiet-stores, quiet-ends, quiet-lines, lineFor, sent-stores}
-use Rattle.logs.specs.Entries.{sent-ends, sent-lines, received-stores, received-empty, received-lines}
-
--- the desk's own part of a world, as a history has it
-abbrev pub carried : feed.World → World
-carried w = record { state = w .desk .state; memory = w .memory }
-
--- plan p was started on memory m, the calls H were made since then, and the log shows what they came to
-pub record Runs (p : Plan) (m : List ℕ) (H : History) (w : feed.World) (log : Log) : Type 0 where
-  pub on : w .desk .running ≡ true
-  pub plan-is : w .desk .plan ≡ p
-  pub planned-is : p ≡ planned (w .desk) .plan
-  pub world-is : carried w ≡ world p m H
-  pub stored : (q n : ℕ) (payload : List ℕ) → StoredIn log q n payload ↔ SentIn p m H q n payload
-  pub told : (q k : ℕ) → linesTo p q k log ≡ map lineFor (readBy p m filler H q k)
-  pub ended : (q k : ℕ) → EndedIn p q k log → ReadToEnd p m H q k
+use Rattle.logs.specs.Entries.{stored-append, ended-append, lines-append, quiet-stores, quiet-ends, quiet-lines, sent-stores, sent-ends}
+use Rattle.logs.specs.Entries.{sent-lines, received-stores, received-empty, received-lines}
 
 -- ## One line more
 
@@ -65,7 +52,7 @@ module _ {p : Plan} {m : List ℕ} {H : History} {w : feed.World} {log : Log} (r
   payload = payloadOf line
 
   abbrev Goal : Frame → Turn → Type 0
-  Goal f t = Runs p m (goOn H (callOf payload f)) (nextBy t) (log ++ (entryBy line t ∷ []))
+  Goal f t = Runs p m (goOn H (callMade payload f)) (nextBy t) (log ++ (entryBy line t ∷ []))
 
   still-ended : {c : Call} {q k : ℕ} → ReadToEnd p m H q k → ReadToEnd p m (H then c) q k
   still-ended e = record { before = e .before; t = e .t; within = more (e .within); job = e .job; answer = e .answer }
@@ -79,7 +66,7 @@ module _ {p : Plan} {m : List ℕ} {H : History} {w : feed.World} {log : Log} (r
 
   -- a call's line
   module _ (c : Call) (t : Turn) (running : t .desk .running ≡ true) (plan : t .desk .plan ≡ p) (table : p ≡ planned (t .desk) .plan)
-      (now : carried (nextBy t) ≡ after p (world p m H) c)
+      (now : stateAndMemory (nextBy t) ≡ after p (world p m H) c)
       (stores : (q n : ℕ) (b : List ℕ) → Stores q n b (entryBy line t) ↔ Sends p (world p m H) c q n b)
       (tells : (q k : ℕ) → linesTo p q k (entryBy line t ∷ []) ≡ map lineFor (reads p filler (world p m H) c q k))
       (ends : (q k : ℕ) → Ends p q k (entryBy line t) → ReadToEnd p m (H then c) q k) where
@@ -102,7 +89,7 @@ module _ {p : Plan} {m : List ℕ} {H : History} {w : feed.World} {log : Log} (r
         go q k (inr (inr x)) = absurd x
 
   -- a line that makes no call
-  idle-quiet : (f : Frame) → callOf payload f ≡ [] → (answer : List ℕ) → Quiet f answer
+  idle-quiet : (f : Frame) → callMade payload f ≡ [] → (answer : List ℕ) → Quiet f answer
   idle-quiet (Frame.Send q i t) e answer = absurd (let z : _≡_ {A = ℕ} 0 1 = cc in omega arith)
   idle-quiet (Frame.Receive q t) e answer = absurd (let z : _≡_ {A = ℕ} 0 1 = cc in omega arith)
   idle-quiet (Frame.Task period deadline) e answer = tt
@@ -145,7 +132,7 @@ module _ {p : Plan} {m : List ℕ} {H : History} {w : feed.World} {log : Log} (r
     abbrev sendCall : Call
     sendCall = send q i (t .0) payload
 
-    sent-now : carried (nextBy sendingTurn) ≡ after p (world p m H) sendCall
+    sent-now : stateAndMemory (nextBy sendingTurn) ≡ after p (world p m H) sendCall
     unfolding withState after
     sent-now =
         subst
@@ -176,7 +163,7 @@ module _ {p : Plan} {m : List ℕ} {H : History} {w : feed.World} {log : Log} (r
     abbrev receiveCall : Call
     receiveCall = receive q (t .0)
 
-    received-now : carried (nextBy receivingTurn) ≡ after p (world p m H) receiveCall
+    received-now : stateAndMemory (nextBy receivingTurn) ≡ after p (world p m H) receiveCall
     unfolding withState after
     received-now =
         subst
@@ -209,7 +196,7 @@ module _ {p : Plan} {m : List ℕ} {H : History} {w : feed.World} {log : Log} (r
       subst (λ (cs : List Call). Runs p m (goOn H cs) w (log ++ (record { line = line; answer = answer } ∷ []))) (sym e)
       (idle-runs answer (subst (λ (g : Frame). Quiet g answer) (sym asked) (idle-quiet f e answer)))
 
-  pub run-line : Runs p m (goOn H (callOf payload (frameIn line))) (feed.next w line)
+  pub run-line : Runs p m (goOn H (callMade payload (frameIn line))) (feed.next w line)
       (log ++ (record { line = line; answer = feed.reply w line } ∷ []))
   run-line =
       subst (Goal (frameIn line)) (sym (line-turn d (w .memory) line)) (acts refl (running-acts d (w .memory) payload (frameIn line) (r .on)))
@@ -222,7 +209,7 @@ unfolding feed.worldAfter logOf
 run-lines {p} {m} {H} {w} {log} r [] = subst (λ (x : Log). Runs p m H w x) (sym (append-nil log)) r
 run-lines {p} {m} {H} {w} {log} r (l ∷ ls) =
     let e : Entry = record { line = l; answer = feed.reply w l } in
-    let calls : List Call = callOf (payloadOf l) (frameIn l) in
+    let calls : List Call = callMade (payloadOf l) (frameIn l) in
     subst (λ (x : Log). Runs p m (goOn H (calls ++ callsIn ls)) (feed.worldAfter (feed.next w l) ls) x)
     (append-assoc log (e ∷ []) (logOf (feed.next w l) ls))
     (subst (λ (K : History). Runs p m K (feed.worldAfter (feed.next w l) ls) ((log ++ (e ∷ [])) ++ logOf (feed.next w l) ls))

@@ -2,6 +2,7 @@
 pub mod Types
 pub mod Said
 pub mod Log
+pub mod Session
 pub mod Fields
 pub mod Lines
 pub mod Widths

@@ -62,18 +62,18 @@ pub record SameTable (a b : Desk) : Type 0 where
 -- ## The calls
 
 -- the call that a line makes on a desk that runs; any other line makes none
-abbrev pub callOf : List ℕ → Frame → List Call
-callOf payload (Frame.Send q i t) = send q i (t .0) payload ∷ []
-callOf payload (Frame.Receive q t) = receive q (t .0) ∷ []
-callOf payload (Frame.Task period deadline) = []
-callOf payload (Frame.Queue receiver mask) = []
-callOf payload Frame.Go = []
-callOf payload Frame.Bad = []
+abbrev pub callMade : List ℕ → Frame → List Call
+callMade payload (Frame.Send q i t) = send q i (t .0) payload ∷ []
+callMade payload (Frame.Receive q t) = receive q (t .0) ∷ []
+callMade payload (Frame.Task period deadline) = []
+callMade payload (Frame.Queue receiver mask) = []
+callMade payload Frame.Go = []
+callMade payload Frame.Bad = []
 
 -- the calls of lines, one after another
 abbrev pub callsIn : List (List ℕ) → List Call
 callsIn [] = []
-callsIn (l ∷ ls) = callOf (payloadOf l) (frameIn l) ++ callsIn ls
+callsIn (l ∷ ls) = callMade (payloadOf l) (frameIn l) ++ callsIn ls
 
 -- ## What was stored
 

@@ -10,34 +10,20 @@ use Rattle.history.specs.History.{World, History, Begins, world, history, goOn,
 use Rattle.history.specs.History.{AllFair, Among as AmongReadings, ReadToEnd}
 use Rattle.history.specs.Answers.{Answered, ended, answered-so}
 use Rattle.history.specs.Theorems.{same-readings}
-use Rattle.logs.specs.Types.{Plan, Answer, Planned, Started as Start, Received, Frame, Desk}
+use Rattle.logs.specs.Types.{Plan, Answer, Planned, Started, Received, Frame, Desk}
 use Rattle.logs.specs.Said.{frameIn, payloadOf, codeIn}
 use Rattle.logs.specs.Lines.{refusal-code}
 use Rattle.logs.specs.Frames.{turnOf, line-turn}
 use Rattle.logs.specs.Turns.{Acts, sends, receives, idles, running-acts}
 use Rattle.logs.specs.Log.{Log, logOf, written, opened, sessionLog, deskAfter, callsIn, AcceptedIn, SameTable, StoredIn, linesTo, EndedIn}
 use Rattle.logs.specs.Log.{RightLine, asStored, nothingStored, RightLines, Among}
-use Rattle.logs.specs.Entries.{lineFor}
-use Rattle.logs.specs.Follows.{Runs, run-lines, Comes, never, started, session-comes}
+use Rattle.logs.specs.Session.{lineFor, Runs, AsHistory, calls}
+use Rattle.logs.specs.Follows.{run-lines, Comes, never, started, session-comes}
 
--- "one accepted start and no start after it": the lines since the accepted 03 are the calls of a history
-pub record Started (m : List ℕ) (lines : List (List ℕ)) : Type 0 where
-  pub before : List (List ℕ)
-  pub go : List ℕ
-  pub since : List (List ℕ)
-  pub whole : lines ≡ before ++ (go ∷ since)
-  pub asked : frameIn go ≡ Frame.Go
-  pub made : Made (deskAfter m lines .plan)
-  pub begins : Begins (deskAfter m lines .plan) m
-  pub runs : Runs (deskAfter m lines .plan) m (history (callsIn since)) (feed.worldAfter (opened m) lines) (sessionLog m lines)
-
-abbrev pub calls : {m : List ℕ} {lines : List (List ℕ)} → Started m lines → History
-calls s = history (callsIn (s .since))
-
-pub has-started : (m : List ℕ) (lines : List (List ℕ)) → deskAfter m lines .running ≡ true → Started m lines
+pub has-started : (m : List ℕ) (lines : List (List ℕ)) → deskAfter m lines .running ≡ true → AsHistory m lines
 has-started m lines on = go (session-comes m lines)
   where
-    go : Comes m (opened m) [] lines → Started m lines
+    go : Comes m (opened m) [] lines → AsHistory m lines
     go (never off) = absurd (clash on off)
     go (started p before since line whole asked made begins r) =
         let e : p ≡ deskAfter m lines .plan = sym (r .plan-is) in
@@ -61,10 +47,10 @@ module _ (d : Desk) (m : List ℕ) where
   abbrev Says81 : Turn → Type 0
   Says81 t = codeIn (t .answer) ≡ 0x81 → t .desk .running ≡ true
 
-  start-81 : (p : Plan) (a : Start) → Says81 (startTurn d p m a)
+  start-81 : (p : Plan) (a : Started) → Says81 (startTurn d p m a)
   unfolding withRun
-  start-81 p Start.Ready c = refl
-  start-81 p (Start.Refused r) c = absurd (not-81 (refusal-code r) c)
+  start-81 p Started.Ready c = refl
+  start-81 p (Started.Refused r) c = absurd (not-81 (refusal-code r) c)
 
   plan-81 : (p : Plan) (a : Answer) → Says81 (planTurn d p m a)
   plan-81 p Answer.Accepted c = start-81 p (startAnswer p m) c
@@ -118,7 +104,7 @@ log-written w [] = refl
 log-written w (l ∷ ls) = ap (λ (x : List ℕ). feed.reply w l ++ x) (log-written (feed.next w l) ls)
 
 -- a session that goes on
-pub runs-later : (m : List ℕ) (lines later : List (List ℕ)) (s : Started m lines) →
+pub runs-later : (m : List ℕ) (lines later : List (List ℕ)) (s : AsHistory m lines) →
     Runs (deskAfter m lines .plan) m (goOn (calls s) (callsIn later)) (feed.worldAfter (feed.worldAfter (opened m) lines) later)
     (sessionLog m (lines ++ later))
 runs-later m lines later s =
@@ -152,7 +138,7 @@ end-queue {p} {m} {q = q} end = go (answered-so p (world p m (end .before)) q (e
 -- ## Two sessions
 
 -- the same table gives the same plan
-pub same-plan : {m m′ : List ℕ} {lines lines′ : List (List ℕ)} → Started m lines → Started m′ lines′ →
+pub same-plan : {m m′ : List ℕ} {lines lines′ : List (List ℕ)} → AsHistory m lines → AsHistory m′ lines′ →
     SameTable (deskAfter m lines) (deskAfter m′ lines′) → deskAfter m′ lines′ .plan ≡ deskAfter m lines .plan
 unfolding planned
 same-plan {m} {m′} {lines} {lines′} s s′ same =

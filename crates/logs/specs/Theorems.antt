@@ -1,10 +1,11 @@
 -- WHAT A SAVED LOG TELLS. A session of the program is any list of lines, from a new desk and memory with any bytes in it; its log is each line
 -- with its answer. These are demand 3's sentences, said of the lines themselves: nothing stands in them but the log's digits and the plan
--- of the table that was accepted. All definitions stand in Log and Said.
+-- of the table that was accepted. All definitions stand in Log, Said and Session.
 --
--- How to read it. `AcceptedIn log`: an 03 was answered 81. `linesTo p q k log`: the lines 85 and 86 of queue q that
--- job k of its receiver got, in the order of the log. `StoredIn log q n payload`: a line 04 on queue q with this payload was answered 84 with
--- number n. `EndedIn p q k log`: a line 05 of job k was answered 87. `windowNumbers`: the numbers of a job's window, from its first on.
+-- How to read it. `AcceptedIn log`: an 03 was answered 81. `linesTo p q k log`: the lines 85 and 86 of queue q that job k of its receiver
+-- got, in the order of the log. `StoredIn log q n payload`: a line 04 on queue q with this payload was answered 84 with number n.
+-- `EndedIn p q k log`: a line 05 of job k was answered 87. `windowNumbers`: the numbers of a job's window, from its first on. `RightLines`:
+-- one by one, the line is the one that the number ought to get, by what was stored.
 use Rattle.common.specs.Words.{ℕ, _≤_, _<_, List, [], _∷_, _++_, _↔_, _≡_, refl, sym, ap, subst, _∙_, drop}
 use Rattle.model.specs.Model.{first, last}
 use Rattle.plan.specs.Plan.{queueAt}
@@ -26,9 +27,8 @@ use Rattle.logs.specs.Types.{Plan}
 use Rattle.logs.specs.Log.{Entry, Log, written, opened, sessionLog, deskAfter, callsIn, AcceptedIn, Stores, StoredIn, linesTo, SameTable}
 use Rattle.logs.specs.Log.{EndedIn, RightLines, Among}
 use Rattle.logs.specs.Verbatim.{message-verbatim}
-use Rattle.logs.specs.Follows.{Runs}
-use Rattle.logs.specs.Started.{Started, calls, has-started, accepted-runs, log-written, runs-later, right-lines, among-lines, end-queue}
-use Rattle.logs.specs.Started.{same-plan, same-runs}
+use Rattle.logs.specs.Session.{Runs, AsHistory, calls}
+use Rattle.logs.specs.Started.{has-started, accepted-runs, log-written, runs-later, right-lines, among-lines, end-queue, same-plan, same-runs}
 
 -- What the program writes of a text, in whatever blocks the text came and with or without a line feed at its end, is the log's answers.
 pub output-is-the-log : (m text : List ℕ) (f : Feeding) → Answered (opened m) [] text f →
@@ -48,14 +48,14 @@ module _ (m : List ℕ) (lines : List (List ℕ)) (accepted : AcceptedIn (sessio
   log = sessionLog m lines
 
   -- The lines since the accepted 03 are a history, in history's sense, on a plan that was made and with one accepted start.
-  pub lines-are-a-history : Started m lines
+  pub lines-are-a-history : AsHistory m lines
   lines-are-a-history = has-started m lines (accepted-runs (opened m) lines accepted)
 
   -- the lines of a job are right for the numbers that it has read
   right-so-far : (later : List (List ℕ)) (q k : ℕ) → q < p .queues →
       RightLines p q (StoredIn (sessionLog m (lines ++ later)) q) (numbers (readBy p m filler (calls lines-are-a-history) q k)) (linesTo p q k log)
   right-so-far later q k counted =
-      let s : Started m lines = lines-are-a-history in
+      let s : AsHistory m lines = lines-are-a-history in
       let H : History = calls s in
       let K : History = goOn H (callsIn later) in
       let reads = history.each-job-reads (s .made) (s .begins) H K q k filler counted refl (goes-on H (callsIn later)) in
@@ -69,7 +69,7 @@ module _ (m : List ℕ) (lines : List (List ℕ)) (accepted : AcceptedIn (sessio
       (told rest : List ℕ) × (told ++ rest ≡ windowNumbers (queueAt p q) k)
       × RightLines p q (StoredIn (sessionLog m (lines ++ later)) q) told (linesTo p q k log)
   each-job-is-told later q k counted =
-      let s : Started m lines = lines-are-a-history in
+      let s : AsHistory m lines = lines-are-a-history in
       let order = history.read-in-order (s .made) (s .begins) filler (calls s) q k counted in
       (numbers (readBy p m filler (calls s) q k), order .0, order .1, right-so-far later q k counted)
 
@@ -77,7 +77,7 @@ module _ (m : List ℕ) (lines : List (List ℕ)) (accepted : AcceptedIn (sessio
   pub whole-window-told : (later : List (List ℕ)) (q k : ℕ) → EndedIn p q k log →
       RightLines p q (StoredIn (sessionLog m (lines ++ later)) q) (windowNumbers (queueAt p q) k) (linesTo p q k log)
   whole-window-told later q k end =
-      let s : Started m lines = lines-are-a-history in
+      let s : AsHistory m lines = lines-are-a-history in
       let ends : ReadToEnd p m (calls s) q k = s .runs .ended q k end in
       let counted : q < p .queues = end-queue ends in
       subst (λ (ns : List ℕ). RightLines p q (StoredIn (sessionLog m (lines ++ later)) q) ns (linesTo p q k log))
@@ -87,7 +87,7 @@ module _ (m : List ℕ) (lines : List (List ℕ)) (accepted : AcceptedIn (sessio
   pub stored-is-told : (q k n : ℕ) (payload : List ℕ) → StoredIn log q n payload → EndedIn p q k log →
       first (queueAt p q) k ≤ n → n ≤ last (queueAt p q) k → Among (lineOf (messageBytes n payload)) (linesTo p q k log)
   stored-is-told q k n payload stored end low high =
-      let s : Started m lines = lines-are-a-history in
+      let s : AsHistory m lines = lines-are-a-history in
       subst (Among (lineOf (messageBytes n payload))) (sym (s .runs .told q k))
       (among-lines _ (readBy p m filler (calls s) q k)
       (history.sent-is-read (s .made) (s .begins) (calls s) q k n payload filler refl (s .runs .ended q k end) low high
@@ -102,8 +102,8 @@ pub same-lines : (m m′ : List ℕ) (lines lines′ : List (List ℕ)) →
     EndedIn (deskAfter m lines .plan) q k (sessionLog m lines) → EndedIn (deskAfter m′ lines′ .plan) q k (sessionLog m′ lines′) →
     linesTo (deskAfter m lines .plan) q k (sessionLog m lines) ≡ linesTo (deskAfter m′ lines′ .plan) q k (sessionLog m′ lines′)
 same-lines m m′ lines lines′ accepted accepted′ table q k agree end end′ =
-    let s : Started m lines = lines-are-a-history m lines accepted in
-    let s′ : Started m′ lines′ = lines-are-a-history m′ lines′ accepted′ in
+    let s : AsHistory m lines = lines-are-a-history m lines accepted in
+    let s′ : AsHistory m′ lines′ = lines-are-a-history m′ lines′ accepted′ in
     let e : deskAfter m′ lines′ .plan ≡ deskAfter m lines .plan = same-plan s s′ table in
     same-runs (s .made) (s .begins) (subst (λ (x : Plan). Begins x m′) e (s′ .begins)) (s .runs)
     (subst (λ (x : Plan). Runs x m′ (calls s′) (worldAfter (opened m′) lines′) (sessionLog m′ lines′)) e (s′ .runs)) q k agree end

@@ -10,14 +10,14 @@ use Rattle.logs.specs.Types.{Tick, Plan, Answer, Started, Frame, Desk}
 use Rattle.logs.specs.Said.{codeIn}
 use Rattle.logs.specs.Lines.{bad-code}
 use Rattle.logs.specs.Frames.{sending, receiving, turnOf}
-use Rattle.logs.specs.Log.{callOf}
+use Rattle.logs.specs.Log.{callMade}
 
 -- ## On a desk that runs
 
 pub data Acts (d : Desk) (m payload : List ℕ) : Frame → Turn → Type 0 where
   sends : {q i : ℕ} {t : Tick} → Acts d m payload (Frame.Send q i t) (sending d m q i t payload)
   receives : {q : ℕ} {t : Tick} → Acts d m payload (Frame.Receive q t) (receiving d m q t)
-  idles : {f : Frame} → callOf payload f ≡ [] → Acts d m payload f (bad d m)
+  idles : {f : Frame} → callMade payload f ≡ [] → Acts d m payload f (bad d m)
 
 pub running-acts : (d : Desk) (m payload : List ℕ) (f : Frame) → d .running ≡ true → Acts d m payload f (turnOf d m payload f)
 unfolding rowTurn goTurn
