@@ -25,6 +25,7 @@ pub struct Reading {
 }
 
 impl Stream {
+    // Nothing was read or written yet.
     pub fn open() -> Stream
         ensures { λ r. ⌜ r ≡ record { is_open = true; left = mostBlocks } ⌝ }
     {

@@ -1,12 +1,12 @@
 -- What answering a block comes to: the desk, the memory and the carry are those of the lines of the bytes that were used, one after
 -- another, and where every answer could be written no byte of the block is left. Leans on feed's fold over a block.
-use Rattle.common.specs.Words.{ℕ, _+_, _≤_, arith, true, List, _++_, append-nil, _≡_, refl, sym, ap, _∙_, length, take, drop}
+use Rattle.common.specs.Words.{ℕ, _+_, _≤_, arith, true, List, _++_, _≡_, refl, sym, length, take, drop}
 use Rattle.common.specs.Words.{length-take-le, take-append-add}
 use lib.ListN.{take-append-drop}
 use Rattle.feed.specs.Answers.{World, worldAfter, answersTo}
 use Rattle.feed.specs.Feed.{Feeding}
-use Rattle.feed.specs.Outcome.{worldOf, fedFrom, resultOf, Outcome}
-use Rattle.feed.specs.Session.{Answered, answered-append, feed-answered}
+use Rattle.feed.specs.Outcome.{worldOf, fedFrom, Outcome}
+use Rattle.feed.specs.Session.{answered-append, feed-answered}
 use Rattle.feed.specs.declared.Fed.{Fed}
 use Rattle.lines.specs.Lines.{fed}
 use Rattle.mulchpenny.specs.declared.Turn.{Turn}
@@ -34,8 +34,8 @@ take-on xs i n h =
 
 -- a call of feed goes on from where the block was left
 pub comes-on :
-    {w : World} {c : List ℕ} (v : World) (held : List ℕ) (u : ℕ) (piece : List ℕ) (at : ℕ) (out : List ℕ) {held₀ out₀ : List ℕ} {r : Fed}
-    {m h o : List ℕ} → at ≤ length piece → Comes w c (take at piece) v (take u held) →
+    {w : World} {c : List ℕ} (v : World) (held : List ℕ) (u : ℕ) (piece : List ℕ) (at : ℕ) (out : List ℕ)
+    {held₀ out₀ : List ℕ} {r : Fed} {m h o : List ℕ} → at ≤ length piece → Comes w c (take at piece) v (take u held) →
     Outcome (fedFrom v held u piece at out) piece at held₀ out₀ r m h o →
     Comes w c (take (r .next) piece) (worldOf (r .desk) m) (take (r .used) h)
 comes-on {w} {c} v held u piece at out i a f =

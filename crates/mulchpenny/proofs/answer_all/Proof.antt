@@ -8,7 +8,8 @@ use Rattle.mulchpenny.proofs.answer_all.Tie as tie
 
 abbrev Inv-loop : tie.InvT-loop
 Inv-loop memory₀ held₀ piece₀ out₀ d₀ u₀ s₀ memory held piece out d u s =
-    (u ≤ kept) × (length memory ≡ length memory₀) × (length held ≡ length held₀) × (length piece ≡ length piece₀) × (length out ≡ length out₀) × Kept d
+    (u ≤ kept) × (length memory ≡ length memory₀) × (length held ≡ length held₀) × (length piece ≡ length piece₀)
+    × (length out ≡ length out₀) × Kept d
 
 abbrev μ-loop : tie.MeasureT-loop
 μ-loop memory₀ held₀ piece₀ out₀ d₀ u₀ s₀ memory held piece out d u s = s .left

@@ -12,8 +12,8 @@ use Rattle.mulchpenny.proofs.answer_block.Tie as tie
 
 abbrev Inv-loop : tie.InvT-loop
 Inv-loop memory₀ held₀ used piece out₀ d₀ u₀ at₀ s₀ memory held out d u at s =
-    (u ≤ kept) × (at ≤ length piece) × (length held ≡ length held₀) × (length out ≡ length out₀) × (length memory ≡ length memory₀) × Kept d
-    × (s .left ≡ s₀ .left)
+    (u ≤ kept) × (at ≤ length piece) × (length held ≡ length held₀) × (length out ≡ length out₀)
+    × (length memory ≡ length memory₀) × Kept d × (s .left ≡ s₀ .left)
     × Comes (worldOf d₀ memory₀) (take used held₀) (take at piece) (worldOf d memory) (take u held)
 
 abbrev μ-loop : tie.MeasureT-loop
@@ -23,7 +23,8 @@ loop-holds : tie.Need-loop-holds Inv-loop μ-loop
 loop-holds c =
     let k = c .before .before .before .before in
     let a = k .args in
-    (k .pre .0, omega arith, refl, refl, refl, k .pre .3, refl, comes-none (worldOf (a .desk) (a .memory .now)) (take (a .used) (a .held .now)) (a .piece .now))
+    let n = comes-none (worldOf (a .desk) (a .memory .now)) (take (a .used) (a .held .now)) (a .piece .now) in
+    (k .pre .0, omega arith, refl, refl, refl, k .pre .3, refl, n)
 
 -- ## A call of feed
 
