@@ -20,7 +20,7 @@ loop-holds c = (omega arith, refl, refl, refl, refl, rw (c .before .new .ensures
 -- no byte came
 returns : tie.Need-returns Inv-loop μ-loop
 returns c =
-    let t = c .before .before .before .before .before .before .before .before in
+    let t = c .before .before .before .before .before .before .before .before .before .before in
     t .before .before .before .before .read-block .ensures .ended (t .if2 .taken)
 
 slice-aggregate-answer-block : tie.Need-slice-aggregate-answer-block Inv-loop μ-loop
@@ -46,7 +46,7 @@ loop-again c =
     let i = read b .before .before .before .before .loop .inv in (
       b .answer-block .ensures .1 .0,
       let m = c .before .before .before .before .before .before .before .memory2 .given in search needs,
-      let m = c .before .before .before .before .before .held .given in search needs,
+      let m = c .before .before .before .before .before .held2 .given in search needs,
       let m = came b .before .before .before .piece .given in search needs,
       let m = c .before .before .before .out2 .given in search needs,
       b .answer-block .ensures .1 .1,
