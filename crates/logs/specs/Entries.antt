@@ -92,7 +92,7 @@ module _ (e : Entry) (quiet : Quiet (frameIn (e .line)) (e .answer)) where
   quiet-lines p q k = go (frameIn (e .line)) quiet
     where
       go : (f : Frame) → Quiet f (e .answer) → cond (asks p q k f && tells (codeIn (e .answer))) (e .answer ∷ []) [] ≡ []
-      go (Frame.Receive r t) c = rw (c, neither (eqb r q && eqb (receivingJob (queueAt p q) (t .0)) k))
+      go (Frame.Receive r t) c = rw (c, neither (asks p q k (Frame.Receive r t)))
       go (Frame.Task period deadline) c = refl
       go (Frame.Queue receiver mask) c = refl
       go Frame.Go c = refl

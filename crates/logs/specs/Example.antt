@@ -21,7 +21,7 @@ use Rattle.digits.specs.Numbers.{valueAt, inBytes}
 use Rattle.frames.specs.Frames.{frameOf, payloadIn}
 use Rattle.frames.specs.Answers.{eachSize, sizesBytes, storedBytes, messageBytes, gapBytes, emptyBytes, lineOf}
 use Rattle.console.specs.Framing.{framedBytes}
-use Rattle.console.specs.Desk.{rowTurn, withTask, withQueue, planned, withRun, goTurn, withState, sendTurn, receiveTurn, bytesTurn, lineTurn}
+use Rattle.console.specs.Desk.{rowTurn, withTask, withQueue, planned, withRun, goTurn, withState, callTurn, bytesTurn, lineTurn}
 use Rattle.feed.specs.Answers.{worldAfter, answersTo}
 use Rattle.logs.specs.Types.{Plan}
 use Rattle.logs.specs.Said.{saidIn}
@@ -76,8 +76,8 @@ unfolding
     precedes upTo dueAt followers number wantedFor horizon outdated euclid gcd lcm multiple hyperperiod messages need rowSlots slotsOver slots last
     tabled longQueue sized tableJudged planOf table bytesOf numberFrom stored cleared running.sendAnswer running.sendMemory
     running.look viewOf startAnswer startMemory sendState receiveState found digit isLine bytesIn digits valueAt inBytes frameOf payloadIn eachSize
-    sizesBytes storedBytes messageBytes gapBytes emptyBytes lineOf framedBytes rowTurn withTask withQueue planned withRun goTurn withState sendTurn
-    receiveTurn bytesTurn lineTurn worldAfter answersTo logOf linesTo saidIn
+    sizesBytes storedBytes messageBytes gapBytes emptyBytes lineOf framedBytes rowTurn withTask withQueue planned withRun goTurn withState callTurn
+    bytesTurn lineTurn worldAfter answersTo logOf linesTo saidIn
 computed = (
   refl,
   refl,

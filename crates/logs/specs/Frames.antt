@@ -1,9 +1,9 @@
 -- The turn of a line, case by case: what the proofs of this crate know of the console's own definition, and all that they know of it.
-use Rattle.common.specs.Words.{ℕ, cond, List, _≡_, refl, _∙_}
+use Rattle.common.specs.Words.{ℕ, Bool, true, false, cond, List, _≡_, refl, _∙_}
 use Rattle.mailbox.specs.Calls.{sendAnswer, sendState, sendMemory, look, receiveState}
 use Rattle.console.specs.Framing.{line-framed}
-use Rattle.console.specs.Desk.{Turn, says, bad, taskTurn, queueTurn, goTurn, withState, sentBytes, sendTurn, receivedBytes, receiveTurn, frameTurn}
-use Rattle.console.specs.Desk.{bytesTurn, lineTurn}
+use Rattle.console.specs.Desk.{Turn, Call, says, bad, taskTurn, queueTurn, goTurn, withState, sentBytes, receivedBytes, callOf, lineCall, callTurn}
+use Rattle.console.specs.Desk.{frameTurn, bytesTurn, lineTurn}
 use Rattle.logs.specs.Types.{Tick, Frame, Desk}
 use Rattle.logs.specs.Said.{frameIn, payloadOf}
 
@@ -23,14 +23,28 @@ turnOf d m payload (Frame.Send q i t) = cond (d .running) (sending d m q i t pay
 turnOf d m payload (Frame.Receive q t) = cond (d .running) (receiving d m q t) (bad d m)
 turnOf d m payload Frame.Bad = bad d m
 
+-- a call's turn, whether the desk runs or not
+abbrev called : Desk → Call → Turn
+called d c = record { desk = withState d (c .state); memory = c .memory; answer = c .answer }
+
+call-turn : (d : Desk) (m payload : List ℕ) (f : Frame) (b : Bool) →
+    called d (lineCall b (d .plan) (d .state) m payload f) ≡ cond b (called d (callOf (d .plan) (d .state) m payload f)) (bad d m)
+unfolding withState
+call-turn d m payload f true = refl
+call-turn d m payload f false = refl
+
+either : {A : Type 0} (b : Bool) (x : A) → cond b x x ≡ x
+either true x = refl
+either false x = refl
+
 frame-turn : (d : Desk) (m payload : List ℕ) (f : Frame) → frameTurn d m payload f ≡ turnOf d m payload f
-unfolding sendTurn receiveTurn
+unfolding callTurn withState
 frame-turn d m payload (Frame.Task period deadline) = refl
 frame-turn d m payload (Frame.Queue receiver mask) = refl
 frame-turn d m payload Frame.Go = refl
-frame-turn d m payload (Frame.Send q i t) = refl
-frame-turn d m payload (Frame.Receive q t) = refl
-frame-turn d m payload Frame.Bad = refl
+frame-turn d m payload (Frame.Send q i t) = call-turn d m payload (Frame.Send q i t) (d .running)
+frame-turn d m payload (Frame.Receive q t) = call-turn d m payload (Frame.Receive q t) (d .running)
+frame-turn d m payload Frame.Bad = call-turn d m payload Frame.Bad (d .running) ∙ either (d .running) (bad d m)
 
 pub line-turn : (d : Desk) (m line : List ℕ) → lineTurn d m line ≡ turnOf d m (payloadOf line) (frameIn line)
 unfolding bytesTurn

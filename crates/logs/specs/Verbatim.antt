@@ -1,12 +1,12 @@
 -- The digits of a payload in an 85 are those of the 04 that stored it, one by one.
 use Rattle.common.specs.Words.{ℕ, zero, suc, _+_, _-_, _*_, _/_, _%_, _<_, _≤_, arith, Bool, true, false, cond, List, [], _∷_, _++_}
-use Rattle.common.specs.Words.{append-assoc, append-nil, _⊎_, inl, inr, ⊎-elim, _≡_, refl, sym, ap, _∙_, length, getD, drop, ext-getD}
-use Rattle.common.specs.Words.{le-leb, lt-leb, le-ltb, lt-ltb, ltb-true}
+use Rattle.common.specs.Words.{append-assoc, append-nil, _⊎_, inl, inr, _≡_, refl, sym, ap, _∙_, length, getD, drop, ext-getD, le-leb, lt-leb}
+use Rattle.common.specs.Words.{le-ltb, lt-ltb, ltb-true}
 use Rattle.common.specs.Tests.{lt-or-le, and-right}
 use Rattle.common.specs.Rows.{every-at}
 use Rattle.common.specs.Table.{table-at}
 use Rattle.digits.specs.Hex.{noDigit, digit, digitAt, evenLine, isLine, byteAt, bytesIn, letter, digits}
-use Rattle.digits.specs.HexLaws.{digit-or-none, digits-append, digits-length, bytes-count, line-even, halves}
+use Rattle.digits.specs.HexLaws.{digits-append, digits-length, bytes-count, line-even, halves}
 use Rattle.digits.specs.Numbers.{inBytes}
 use Rattle.frames.specs.Frames.{frameOf, payloadIn}
 use Rattle.frames.specs.Answers.{messageBytes, lineOf}
@@ -18,25 +18,26 @@ use Rattle.logs.specs.Fields.{digits-at}
 
 -- ## A line is the digits of its bytes
 
-digit-back : (c : ℕ) → digit c < noDigit → letter (digit c) ≡ c
+-- a digit's value is below 16, and it leads back to the digit
+digit-back : (c : ℕ) → digit c < noDigit → (digit c < 16) × (letter (digit c) ≡ c)
 unfolding digit
 digit-back c = go (lt-or-le c 0x30) (lt-or-le 0x39 c) (lt-or-le c 0x61) (lt-or-le 0x66 c)
   where
     go : (c < 0x30) ⊎ (0x30 ≤ c) → (0x39 < c) ⊎ (c ≤ 0x39) → (c < 0x61) ⊎ (0x61 ≤ c) → (0x66 < c) ⊎ (c ≤ 0x66) →
-        digit c < noDigit → letter (digit c) ≡ c
+        digit c < noDigit → (digit c < 16) × (letter (digit c) ≡ c)
     go (inl w) x y z = rw (lt-ltb c 0x30 w) (λ h. absurd (omega arith))
-    go (inr w) (inr x) y z = rw (le-ltb c 0x30 w, le-leb c 0x39 x) (λ h. rw (lt-ltb (c - 0x30) 10 (omega arith)) (omega arith))
+    go (inr w) (inr x) y z = rw (le-ltb c 0x30 w, le-leb c 0x39 x) (λ h. (omega arith, rw (lt-ltb (c - 0x30) 10 (omega arith)) (omega arith)))
     go (inr w) (inl x) (inl y) z = rw (le-ltb c 0x30 w, lt-leb c 0x39 x, lt-ltb c 0x61 y) (λ h. absurd (omega arith))
     go (inr w) (inl x) (inr y) (inl z) = rw (le-ltb c 0x30 w, lt-leb c 0x39 x, le-ltb c 0x61 y, lt-leb c 0x66 z) (λ h. absurd (omega arith))
     go (inr w) (inl x) (inr y) (inr z) =
-        rw (le-ltb c 0x30 w, lt-leb c 0x39 x, le-ltb c 0x61 y, le-leb c 0x66 z) (λ h. rw (le-ltb (c - 0x61 + 10) 10 (omega arith)) (omega arith))
+        rw (le-ltb c 0x30 w, lt-leb c 0x39 x, le-ltb c 0x61 y, le-leb c 0x66 z)
+        (λ h. (omega arith, rw (le-ltb (c - 0x61 + 10) 10 (omega arith)) (omega arith)))
 
 module _ (line : List ℕ) (is : isLine line ≡ true) where
   digit-there : (i : ℕ) → i < length line → (digit (getD line i 0) < 16) × (letter (digit (getD line i 0)) ≡ getD line i 0)
   unfolding isLine
   digit-there i h =
-      let known : digit (getD line i 0) < noDigit = ltb-true _ _ (every-at (digitAt line) (length line) i (and-right (evenLine line) _ is) h) in
-      (⊎-elim (λ x. x) (λ x. absurd (omega arith)) (digit-or-none (getD line i 0)), digit-back (getD line i 0) known)
+      digit-back (getD line i 0) (ltb-true _ _ (every-at (digitAt line) (length line) i (and-right (evenLine line) _ is) h))
 
   even : 2 * (length line / 2) ≡ length line
   even = halves line (line-even line is .1)
