@@ -7,7 +7,7 @@ use plan::Plan;
 ghost use Rattle.common.specs.Words.{_≡_, _<_, _≤_, false, length, take};
 ghost use Rattle.console.specs.Desk.{Kept};
 ghost use Rattle.feed.specs.Feed.{enough};
-ghost use Rattle.feed.specs.Outcome.{consoleOf};
+ghost use Rattle.feed.specs.Answers.{consoleOf};
 ghost use Rattle.lines.specs.Lines.{kept};
 ghost use Rattle.mulchpenny.specs.Block.{BlockGives};
 

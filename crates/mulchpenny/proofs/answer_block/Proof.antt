@@ -3,10 +3,11 @@
 use Rattle.common.specs.Words.{needs, arith, true≢false, _≡_, refl, sym, _∙_, _-_, _<_, _≤_, length, take}
 use Rattle.console.specs.Desk.{Kept}
 use Rattle.feed.specs.Feed.{enough}
-use Rattle.feed.specs.Outcome.{consoleOf}
+use Rattle.feed.specs.Answers.{consoleOf}
 use Rattle.feed.specs.Session.{next-moves}
 use Rattle.lines.specs.Lines.{kept}
-use Rattle.mulchpenny.specs.Block.{Comes, comes-none, comes-on}
+use Rattle.mulchpenny.specs.Block.{Comes}
+use Rattle.mulchpenny.specs.Laws.{comes-none, comes-on}
 use Rattle.mulchpenny.proofs.answer_block.Statement.{statement}
 use Rattle.mulchpenny.proofs.answer_block.Tie as tie
 
