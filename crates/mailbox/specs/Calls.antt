@@ -18,14 +18,14 @@ fresh = record { tick = tick 0; sent = replicate cellLimit 0; reading = replicat
 -- ## Send
 
 -- the job after the last one that task i sent into queue q
-abbrev pub lastSent : State → ℕ → ℕ → ℕ
-lastSent s q i = running.unsentAt (s .sent) q i
+abbrev pub unsentAt : State → ℕ → ℕ → ℕ
+unsentAt s q i = running.unsentAt (s .sent) q i
 
 abbrev pub sendLines : State → Plan → List ℕ → ℕ → ℕ → ℕ → List ℕ → List Line
-sendLines s p m q i t payload = running.sendLines (s .tick .0) (lastSent s q i) p m q i t payload
+sendLines s p m q i t payload = running.sendLines (s .tick .0) (unsentAt s q i) p m q i t payload
 
 abbrev pub sendAnswer : State → Plan → List ℕ → ℕ → ℕ → ℕ → List ℕ → Sent
-sendAnswer s p m q i t payload = running.sendAnswer (s .tick .0) (lastSent s q i) p m q i t payload
+sendAnswer s p m q i t payload = running.sendAnswer (s .tick .0) (unsentAt s q i) p m q i t payload
 
 -- where a message was stored, the task's job is recorded
 abbrev pub recorded : State → Plan → ℕ → ℕ → ℕ → Sent → State
@@ -39,7 +39,7 @@ unfoldable pub sendState : State → Plan → List ℕ → ℕ → ℕ → ℕ �
 sendState s p m q i t payload = recorded s p q i t (sendAnswer s p m q i t payload)
 
 abbrev pub sendMemory : State → Plan → List ℕ → ℕ → ℕ → ℕ → List ℕ → List ℕ
-sendMemory s p m q i t payload = running.sendMemory (s .tick .0) (lastSent s q i) p m q i t payload
+sendMemory s p m q i t payload = running.sendMemory (s .tick .0) (unsentAt s q i) p m q i t payload
 
 -- ## Receive. It is a look, which changes nothing, and then a step on from the answer.
 

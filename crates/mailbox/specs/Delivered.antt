@@ -17,7 +17,7 @@ use Rattle.running.specs.Calls as running
 use Rattle.running.specs.Bounds.{slot-inside, count-small}
 use Rattle.running.specs.Outcomes.{started-clear, start-is-clear, sent-clear, send-is-clear}
 use Rattle.mailbox.specs.Types.{Number, Slot, Plan, State, Started, Sent, Received, Verdict}
-use Rattle.mailbox.specs.Calls.{startAnswer, startMemory, sendLines, runningJob, runningNumber, runningDeadline, slotFor, lastSent}
+use Rattle.mailbox.specs.Calls.{startAnswer, startMemory, sendLines, runningJob, runningNumber, runningDeadline, slotFor, unsentAt}
 use Rattle.mailbox.specs.Calls.{sendAnswer, sendState, sendMemory, receiveLines, receivingJob, nextNumber, found, look, acceptedReceive}
 use Rattle.running.specs.View.{viewOf}
 use Rattle.mailbox.specs.Outcomes.{state-clear}
@@ -31,7 +31,7 @@ start-unwritten p m k e h =
 -- ## A send and then a receive of its number
 
 module _ (s : State) (p : Plan) (m : List ℕ) (q i t : ℕ) (payload : List ℕ) (n : Number) (at : Slot)
-    (sent : sendAnswer s p m q i t payload ≡ Sent.Stored n at) where
+    (told : sendAnswer s p m q i t payload ≡ Sent.Stored n at) where
   abbrev state : State
   state = sendState s p m q i t payload
 
@@ -42,15 +42,15 @@ module _ (s : State) (p : Plan) (m : List ℕ) (q i t : ℕ) (payload : List ℕ
   place = slotFor p q (n .0)
 
   clear : verdict (sendLines s p m q i t payload) ≡ Verdict.Clear
-  clear = send-is-clear (s .tick .0) (lastSent s q i) p m q i t payload n at sent
+  clear = send-is-clear (s .tick .0) (unsentAt s q i) p m q i t payload n at told
 
-  taken : SendTaken (s .tick .0) (lastSent s q i) p m q i t payload
-  taken = send-taken (s .tick .0) (lastSent s q i) p m q i t payload refl clear
+  taken : SendTaken (s .tick .0) (unsentAt s q i) p m q i t payload
+  taken = send-taken (s .tick .0) (unsentAt s q i) p m q i t payload refl clear
 
   -- the number that was answered is the running job's
   pub answered : n ≡ message (runningNumber (queueAt p q) i t)
   answered =
-      let e : sendAnswer s p m q i t payload ≡ _ = sent-clear (s .tick .0) (lastSent s q i) p m q i t payload refl clear .0 in cc
+      let e : sendAnswer s p m q i t payload ≡ _ = sent-clear (s .tick .0) (unsentAt s q i) p m q i t payload refl clear .0 in cc
 
   number-fits : n .0 < 2 ^ 64
   number-fits =
@@ -63,7 +63,7 @@ module _ (s : State) (p : Plan) (m : List ℕ) (q i t : ℕ) (payload : List ℕ
       ))
 
   memory-is : memory ≡ stored payloadBytes m place (n .0) payload
-  memory-is = rw answered (sent-clear (s .tick .0) (lastSent s q i) p m q i t payload refl clear .1)
+  memory-is = rw answered (sent-clear (s .tick .0) (unsentAt s q i) p m q i t payload refl clear .1)
 
   -- what the slot then holds
   pub sent-number : numberIn payloadBytes (sendMemory s p m q i t payload) (slotFor p q (n .0)) ≡ n .0

@@ -6,7 +6,7 @@ use Rattle.plan.specs.Plan.{queueAt}
 use Rattle.plan.specs.Verdicts.{verdict}
 use Rattle.running.specs.Outcomes.{sent-clear}
 use Rattle.mailbox.specs.Types.{Plan, Verdict, State}
-use Rattle.mailbox.specs.Calls.{runningJob, lastSent, sendLines, sendState}
+use Rattle.mailbox.specs.Calls.{runningJob, unsentAt, sendLines, sendState}
 
 abbrev pub sentState : State → Plan → ℕ → ℕ → ℕ → State
 sentState s p q i t = record {
@@ -24,4 +24,4 @@ movedTo s t = record { tick = tick t; sent = s .sent; reading = s .reading }
 pub state-clear : (s : State) (p : Plan) (m : List ℕ) (q i t : ℕ) (payload : List ℕ) →
     verdict (sendLines s p m q i t payload) ≡ Verdict.Clear → sendState s p m q i t payload ≡ sentState s p q i t
 unfolding sendState
-state-clear s p m q i t payload e = rw (sent-clear (s .tick .0) (lastSent s q i) p m q i t payload refl e .0)
+state-clear s p m q i t payload e = rw (sent-clear (s .tick .0) (unsentAt s q i) p m q i t payload refl e .0)

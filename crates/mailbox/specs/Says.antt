@@ -9,7 +9,7 @@ use Rattle.mailbox.specs.Types.{Plan, State, Started, Sent, Received}
 use Rattle.judge.specs.Lines.{sentAlready}
 use Rattle.running.specs.Calls as running
 use Rattle.mailbox.specs.Calls.{startLines, startAnswer, sendLines, runningJob, runningDeadline, runningNumber, slotIn}
-use Rattle.mailbox.specs.Calls.{lastSent, sendAnswer, receiveLines, receivingJob, look, acceptedReceive, startedSays, sentSays, receivedSays}
+use Rattle.mailbox.specs.Calls.{unsentAt, sendAnswer, receiveLines, receivingJob, look, acceptedReceive, startedSays, sentSays, receivedSays}
 use Rattle.plan.specs.Verdicts.{judged-map}
 
 -- "Running calls test 7, 8, 14, 9, 11, 10, 12, 13, as far as each applies"
@@ -31,7 +31,7 @@ pub send-says : (s : State) (p : Plan) (m : List ℕ) (q i t : ℕ) (payload : L
     (cond (ltb lastTick t || ltb lastTick (runningDeadline (queueAt p q) i t)) (no 11)
     (cond (ltb t (s .tick .0)) (no 10)
     (cond (leb (runningDeadline (queueAt p q) i t) t) (no 12)
-    (cond (sentAlready (lastSent s q i) (runningJob (queueAt p q) i t)) (no 13)
+    (cond (sentAlready (unsentAt s q i) (runningJob (queueAt p q) i t)) (no 13)
     (0x84, n ∷ slotIn p q n ∷ []))))))))
 unfolding running.sendAnswer
 send-says s p m q i t payload = judged-map sentSays (sendLines s p m q i t payload) Sent.Refused _
