@@ -1,8 +1,7 @@
 -- What is known of a stream after a block was read, and after answers were written. What was read or written no contract can say.
 use Prim.Native.Nat.{ℕ, _<_, _≤_}
-use native.Mathlib.Omega.{arith}
-use mathlib.Core.Bool.{true, false, true≢false}
-use mathlib.Core.Path.{_≡_, refl, sym}
+use mathlib.Core.Bool.{true, false}
+use mathlib.Core.Path.{_≡_}
 use Rattle.blocks.specs.declared.Stream.{Stream}
 use Rattle.blocks.specs.declared.Reading.{Reading}
 
@@ -24,10 +23,3 @@ pub record Gone (s r : Stream) : Type 0 where
 
 abbrev pub closed : Stream → Stream
 closed s = record { is_open = false; left = s .left }
-
-pub closed-came : (s : Stream) (room : ℕ) {r : Reading} → r ≡ record { stream = closed s; bytes = 0 } → Came s room r
-closed-came s room e =
-    rw e (record { fits = omega arith; ended = λ h. refl; goes-on = λ h. absurd (omega arith); fewer = λ h. absurd (omega arith) })
-
-pub closed-gone : (s : Stream) {r : Stream} → r ≡ closed s → Gone s r
-closed-gone s e = rw e (record { same-left = refl; was-open = λ h. absurd (true≢false (sym h)) })

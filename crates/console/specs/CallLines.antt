@@ -1,6 +1,7 @@
 -- Frames 04 and 05 as the code takes them: what a call leaves of the columns that it is lent makes the call of the definition, and a call of
 -- the definition makes the desk's turn.
-use Rattle.common.specs.Words.{ℕ, _≤_, arith, Bool, true, false, cond, _&&_, List, [], _≡_, refl, sym, ap, _∙_, length, length-take, length-drop, sets}
+use Rattle.common.specs.Words.{ℕ, _≤_, arith, Bool, true, false, cond, _&&_, List, [], _≡_, refl, sym, ap, _∙_, length, length-take}
+use Rattle.common.specs.Words.{length-drop, sets}
 use Rattle.plan.specs.Limits.{payloadBytes}
 use Rattle.slots.specs.Slots as slots
 use Rattle.running.specs.Calls as running
@@ -20,7 +21,8 @@ stateOf before sent reading = record { tick = before; sent = sent; reading = rea
 -- a function that takes a call leaves these columns, this memory and this buffer
 abbrev pub Leaves : Call → List ℕ → Called → List ℕ → List ℕ → List ℕ → List ℕ → Type 0
 Leaves c out r sent reading memory after =
-    (stateOf (r .tick) sent reading ≡ c .state) × (r .written ≡ length (c .answer)) × (memory ≡ c .memory) × (after ≡ sets out 0 (c .answer))
+    (stateOf (r .tick) sent reading ≡ c .state) × (r .written ≡ length (c .answer)) × (memory ≡ c .memory)
+    × (after ≡ sets out 0 (c .answer))
 
 -- the desk's turn
 pub turn-left : (d : Desk) (m payload out : List ℕ) (f : Frame) {r : Called} {sent reading memory after : List ℕ} →
@@ -30,7 +32,8 @@ unfolding callTurn
 turn-left d m payload out f e = (rw (e .0, e .1), e .2, e .3)
 
 -- and so the turn of a line's bytes, by what its frame is
-module _ (d : Desk) (m bytes out : List ℕ) {f : Frame} {b : Bool} {memory after : List ℕ} (framed : f ≡ frameOf bytes) (told : b ≡ isCall f) where
+module _ (d : Desk) (m bytes out : List ℕ) {f : Frame} {b : Bool} {memory after : List ℕ} (framed : f ≡ frameOf bytes)
+    (told : b ≡ isCall f) where
   pub call-taken : {payload : List ℕ} {r : Called} {sent reading : List ℕ} → payload ≡ payloadIn bytes → b ≡ true →
       Leaves (lineCall (d .running) (d .plan) (d .state) m payload f) out r sent reading memory after →
       Takes (bytesTurn d m bytes) out (record { desk = withState d (stateOf (r .tick) sent reading); written = r .written }) memory after
@@ -69,7 +72,8 @@ view-short Received.Empty m = omega arith
 view-short (Received.Refused r) m = omega arith
 
 pub message-line : (a : Received) (n : Number) (s : Slot) (m payload out after : List ℕ) (k : ℕ) → a ≡ Received.Message n s →
-    payload ≡ viewOf (Received.Message n s) m filler → Written (messageBytes (n .0) payload) out k after → Written (receivedBytes m a) out k after
+    payload ≡ viewOf (Received.Message n s) m filler → Written (messageBytes (n .0) payload) out k after →
+    Written (receivedBytes m a) out k after
 message-line a n s m payload out after k e f w = rw e (rw f at w)
 
 pub receive-left : (before : Tick) (reading : List ℕ) (p : Plan) (m : List ℕ) (q : ℕ) (t : Tick) (out sent : List ℕ) {r : ReceivedAt}

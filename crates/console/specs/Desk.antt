@@ -4,6 +4,7 @@ use Rattle.common.specs.Words.{ℕ, _+_, _/_, _%_, _^_, Bool, true, false, cond
 use Rattle.common.specs.Table.{table}
 use Rattle.plan.specs.Limits.{taskLimit, queueLimit, payloadBytes}
 use Rattle.plan.specs.Plan.{zeros}
+use Rattle.plan.specs.Rules.{soundPlan}
 use Rattle.planning.specs.Planning.{planOf}
 use Rattle.mailbox.specs.Calls.{fresh, startAnswer, startMemory, sendAnswer, sendState, sendMemory, look, receiveState}
 use Rattle.running.specs.View.{viewOf}
@@ -41,6 +42,10 @@ newDesk = record {
   plan = zeros;
   state = fresh;
 }
+
+-- what every turn keeps of a desk: the plan that it runs is sound
+pub record Kept (d : Desk) : Type 0 where
+  pub sound : d .running ≡ true → soundPlan (d .plan) ≡ true
 
 -- ## 01 and 02: one row more, which is not answered. "01 to 03 after an accepted 03, a row beyond 16 and 8 .. is answered 7ff000"
 

@@ -81,11 +81,13 @@ short-call : (p : Plan) (s : State) (m payload : List ℕ) (f : Frame) → lengt
 short-call p s m payload (Frame.Task period deadline) = short-unmoved s m
 short-call p s m payload (Frame.Queue receiver mask) = short-unmoved s m
 short-call p s m payload Frame.Go = short-unmoved s m
-short-call p s m payload (Frame.Send q i t) = short-line (sentBytes (sendAnswer s p m q i (t .0) payload)) (few-sent (sendAnswer s p m q i (t .0) payload))
+short-call p s m payload (Frame.Send q i t) =
+    short-line (sentBytes (sendAnswer s p m q i (t .0) payload)) (few-sent (sendAnswer s p m q i (t .0) payload))
 short-call p s m payload (Frame.Receive q t) = short-line (receivedBytes m (look s p m q (t .0))) (few-received m (look s p m q (t .0)))
 short-call p s m payload Frame.Bad = short-unmoved s m
 
-short-lined : (runs : Bool) (p : Plan) (s : State) (m payload : List ℕ) (f : Frame) → length (lineCall runs p s m payload f .answer) ≤ longestAnswer
+short-lined : (runs : Bool) (p : Plan) (s : State) (m payload : List ℕ) (f : Frame) →
+    length (lineCall runs p s m payload f .answer) ≤ longestAnswer
 short-lined true p s m payload f = short-call p s m payload f
 short-lined false p s m payload f = short-unmoved s m
 

@@ -36,12 +36,14 @@ line-framed d m line = go (isLine line)
 
 -- ## A step
 
-pub step-short : (d : Desk) (m line out : List ℕ) → length out < longestAnswer → StepGives d m line out (record { desk = d; reply = Reply.NoRoom }) m out
+pub step-short : (d : Desk) (m line out : List ℕ) → length out < longestAnswer →
+    StepGives d m line out (record { desk = d; reply = Reply.NoRoom }) m out
 unfolding stepOf
 step-short d m line out h = rw (lt-ltb (length out) longestAnswer h) (refl, refl, refl)
 
 -- with room for an answer it takes the turn of the line's bytes
-pub step-taken : (d : Desk) (m line out : List ℕ) → longestAnswer ≤ length out → {bytes payload : List ℕ} {f : Frame} {r : Stepped} {memory after : List ℕ} →
+pub step-taken : (d : Desk) (m line out : List ℕ) → longestAnswer ≤ length out →
+    {bytes payload : List ℕ} {f : Frame} {r : Stepped} {memory after : List ℕ} →
     bytes ≡ framedBytes line → f ≡ frameOf bytes → payload ≡ payloadIn bytes → Takes (frameTurn d m payload f) out r memory after →
     StepGives d m line out (record { desk = r .desk; reply = Reply.Written (r .written) }) memory after
 unfolding stepOf

@@ -9,11 +9,10 @@ use Rattle.digits.specs.Hex.{isLine, bytesIn}
 use Rattle.frames.specs.Answers.{longestAnswer}
 use Rattle.frames.specs.Frames.{frameOf, payloadIn}
 use Rattle.console.specs.Types.{Plan, Answer, State, Started, Frame, Desk}
+pub use Rattle.console.specs.Desk.{Kept}
 use Rattle.console.specs.Desk.{newDesk, squareOf, planned, withTask, withQueue, withRun, withState, stepOf}
-use Rattle.console.specs.Desk.{Turn, silent, bad, rowTurn, startTurn, planTurn, goTurn, callTurn, isCall, tableTurn, frameTurn, bytesTurn, lineTurn}
-
-pub record Kept (d : Desk) : Type 0 where
-  pub sound : d .running ≡ true → soundPlan (d .plan) ≡ true
+use Rattle.console.specs.Desk.{Turn, silent, bad, rowTurn, startTurn, planTurn, goTurn, callTurn, isCall, tableTurn, frameTurn, bytesTurn}
+use Rattle.console.specs.Desk.{lineTurn}
 
 pub kept-new : Kept newDesk
 kept-new = record { sound = λ e. absurd (clash e refl) }

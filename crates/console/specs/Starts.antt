@@ -4,8 +4,7 @@ use Rattle.plan.specs.Limits.{queueLimit}
 use Rattle.plan.specs.Rules.{soundPlan}
 use Rattle.plan.specs.Sound.{sound-iff}
 use Rattle.plan.specs.Verdicts.{Passed, Stopped, passed-or-stopped, passed-good, stopped-refused, judged-good}
-use Rattle.mailbox.specs.Calls.{fresh, startLines, startAnswer, startMemory}
-use Rattle.mailbox.specs.Outcomes.{StartGives}
+use Rattle.mailbox.specs.Calls.{fresh, startLines, startAnswer, startMemory, StartGives}
 use Rattle.frames.specs.Answers.{refusalBytes, sizesBytes}
 use Rattle.frames.specs.Writing.{Written}
 use Rattle.console.specs.Types.{Plan, Refusal, Planned, Answer, Started, Starting, Desk, Stepped}
@@ -58,7 +57,8 @@ module _ (d : Desk) (m : List ℕ) where
   go-planned x h e = when-false _ _ h ∙ ap (λ (y : Planned). planTurn d (y .plan) m (y .answer)) (sym e)
 
   module _ (out : List ℕ) (x : Planned) (s : Stepped) (memory after : List ℕ) (stopped : d .running ≡ false) (is : x ≡ planned d) where
-    pub go-refused : (r : Refusal) (k : Desk) → x .answer ≡ Answer.Refused r → k ≡ newDesk → Takes (says k m (refusalBytes r)) out s memory after →
+    pub go-refused : (r : Refusal) (k : Desk) → x .answer ≡ Answer.Refused r → k ≡ newDesk →
+        Takes (says k m (refusalBytes r)) out s memory after →
         Takes (goTurn d m) out s memory after
     go-refused r k e g t = rw (go-planned x stopped is, e) (rw g at t)
 

@@ -46,6 +46,7 @@ module _ (d : Desk) (m : List ℕ) (full : Bool) (more : Desk) where
 -- ## A frame
 
 pub frame-taken : (d : Desk) (m bytes out : List ℕ) {g : Frame} {payload : List ℕ} {r : Stepped} {memory after : List ℕ} →
-    g ≡ frameOf bytes → payload ≡ payloadIn bytes → Takes (frameTurn d m payload g) out r memory after → Takes (bytesTurn d m bytes) out r memory after
+    g ≡ frameOf bytes → payload ≡ payloadIn bytes → Takes (frameTurn d m payload g) out r memory after →
+    Takes (bytesTurn d m bytes) out r memory after
 unfolding bytesTurn
 frame-taken d m bytes out e p x = rw (← e, ← p) x

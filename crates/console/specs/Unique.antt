@@ -4,5 +4,6 @@ use Rattle.console.specs.Desk.{StepGives}
 use Rattle.console.specs.Types.{Desk, Replied}
 
 pub step-unique : (d : Desk) (m line out : List ℕ) (r r′ : Replied) (memory memory′ after after′ : List ℕ) →
-    StepGives d m line out r memory after → StepGives d m line out r′ memory′ after′ → (r ≡ r′) × (memory ≡ memory′) × (after ≡ after′)
+    StepGives d m line out r memory after → StepGives d m line out r′ memory′ after′ →
+    (r ≡ r′) × (memory ≡ memory′) × (after ≡ after′)
 step-unique d m line out r r′ memory memory′ after after′ a b = (a .0 ∙ sym (b .0), a .1 ∙ sym (b .1), a .2 ∙ sym (b .2))

@@ -179,7 +179,8 @@ pub fn call_line<'a>(
     payload: &[u8],
     out: &mut [u8],
 ) -> Called
-    requires { ⌜ (runs ≡ true → sound ≡ soundPlan (lentPlan (now sends) (now period) (now deadline) (now receiver) (now size) (now place) tasks queues))
+    requires { ⌜ (runs ≡ true → sound
+        ≡ soundPlan (lentPlan (now sends) (now period) (now deadline) (now receiver) (now size) (now place) tasks queues))
         × (longestAnswer ≤ length (now out)) ⌝ }
     ensures { λ r. ⌜ Leaves (lineCall runs
         (lentPlan (now (sends .entry)) (now (period .entry)) (now (deadline .entry)) (now (receiver .entry))

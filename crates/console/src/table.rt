@@ -91,7 +91,8 @@ fn with_run(mut desk: Desk, plan: Plan, state: State) -> Desk
 
 fn start(desk: Desk, plan: Plan, memory: &mut [u8], out: &mut [u8]) -> Stepped
     requires { ⌜ longestAnswer ≤ length (now out) ⌝ }
-    ensures { λ r. ⌜ Takes (startTurn desk plan (now (memory .entry)) (startAnswer plan (now (memory .entry)))) (now (out .entry)) r (now (memory .exit)) (now (out .exit)) ⌝ }
+    ensures { λ r. ⌜ Takes (startTurn desk plan (now (memory .entry)) (startAnswer plan (now (memory .entry)))) (now (out .entry)) r
+        (now (memory .exit)) (now (out .exit)) ⌝ }
 {
     let starting = State::start(plan, memory);
     let answer = starting.answer;

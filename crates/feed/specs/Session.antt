@@ -1,47 +1,43 @@
 -- What feeding means: the lines of the text that was used are answered one after another, in whatever blocks the text came and however
 -- often the room for answers ran short.
-use Rattle.common.specs.Words.{ℕ, suc, _+_, _-_, _<_, _≤_, arith, Bool, true, false, List, [], _∷_, _++_, map, append-nil, _≡_, refl, sym, ap, _∙_}
+use Rattle.common.specs.Words.{ℕ, suc, _+_, _-_, _<_, _≤_, arith, Bool, true, false, List, [], _∷_, _++_, map, append-nil, _≡_, refl, sym}
+use Rattle.common.specs.Words.{ap, _∙_}
 use Rattle.common.specs.Words.{eqb, ltb, length, take, drop, length-append, length-drop, le-ltb, ltb-true}
 use Rattle.console.specs.Desk.{Turn}
 use Rattle.lines.specs.Lines.{lineFeed, cut, fed, ended}
 use Rattle.lines.specs.Blocks.{fed-append}
 use Rattle.lines.specs.Whole.{linesOf, whole-lines}
-use Rattle.feed.specs.Answers.{World, next, reply, worldAfter, answersTo, world-append, answers-append}
+use Rattle.feed.specs.Answers.{Console, next, reply, consoleAfter, answersTo, console-append, answers-append}
+pub use Rattle.feed.specs.Feed.{Answered}
 use Rattle.feed.specs.Feed.{enough, Feeding, still, onward, going, feedOf}
 use Rattle.feed.specs.Step.{line-cut}
 use Rattle.feed.specs.Outcome.{fedFrom, Outcome}
 use Rattle.feed.specs.declared.Fed.{Fed as FedResult}
 
--- from the world w and the carry c, the text x comes to this: its lines are answered one after another, and the rest of it is carried
-pub record Answered (w : World) (c x : List ℕ) (f : Feeding) : Type 0 where
-  pub world : f .world ≡ worldAfter w (fed c x .lines)
-  pub answers : f .answers ≡ answersTo w (fed c x .lines)
-  pub carry : f .carry ≡ fed c x .carry
-
 -- ## One call
 
-none-answered : (w : World) (c : List ℕ) → Answered w c [] (still w c)
-unfolding fed worldAfter answersTo
-none-answered w c = record { world = refl; answers = refl; carry = refl }
+none-answered : (w : Console) (c : List ℕ) → Answered w c [] (still w c)
+unfolding fed consoleAfter answersTo
+none-answered w c = record { console = refl; answers = refl; carry = refl }
 
 -- a byte more of the line; and the line's end
 byte-answered :
-    (w : World) (c : List ℕ) (b : ℕ) (x : List ℕ) (f : Feeding) → eqb b lineFeed ≡ false → Answered w (cut (c ++ (b ∷ []))) x f →
+    (w : Console) (c : List ℕ) (b : ℕ) (x : List ℕ) (f : Feeding) → eqb b lineFeed ≡ false → Answered w (cut (c ++ (b ∷ []))) x f →
     Answered w c (b ∷ x) (onward 1 [] f)
 unfolding fed
-byte-answered w c b x f e a = record { world = rw e (a .world); answers = rw e (a .answers); carry = rw e (a .carry) }
+byte-answered w c b x f e a = record { console = rw e (a .console); answers = rw e (a .answers); carry = rw e (a .carry) }
 
 line-answered :
-    (w : World) (c : List ℕ) (b : ℕ) (x : List ℕ) (f : Feeding) → eqb b lineFeed ≡ true → Answered (next w c) [] x f →
+    (w : Console) (c : List ℕ) (b : ℕ) (x : List ℕ) (f : Feeding) → eqb b lineFeed ≡ true → Answered (next w c) [] x f →
     Answered w c (b ∷ x) (onward 1 (reply w c) f)
-unfolding fed worldAfter answersTo
+unfolding fed consoleAfter answersTo
 line-answered w c b x f e a =
-    record { world = rw e (a .world); answers = rw e (ap (λ (y : List ℕ). reply w c ++ y) (a .answers)); carry = rw e (a .carry) }
+    record { console = rw e (a .console); answers = rw e (ap (λ (y : List ℕ). reply w c ++ y) (a .answers)); carry = rw e (a .carry) }
 
 take-one : (n b : ℕ) (bs : List ℕ) → take (1 + n) (b ∷ bs) ≡ b ∷ take n bs
 take-one n b bs = let e : 1 + n ≡ suc n = omega arith in rw e
 
-going-answered : (w : World) (c t : List ℕ) (room : ℕ) → Answered w c (take (going w c t room .taken) t) (going w c t room)
+going-answered : (w : Console) (c t : List ℕ) (room : ℕ) → Answered w c (take (going w c t room .taken) t) (going w c t room)
 unfolding going
 going-answered w c [] room = none-answered w c
 going-answered w c (b ∷ bs) room =
@@ -62,7 +58,7 @@ going-answered w c (b ∷ bs) room =
     go true e false s f g = rw (e, s, take-one (ended-here .taken) b bs) (line-answered w c b (take (ended-here .taken) bs) ended-here e f)
     go false e s r f g = rw (e, take-one (goes-on .taken) b bs) (byte-answered w c b (take (goes-on .taken) bs) goes-on e g)
 
-pub feed-answered : (w : World) (c t : List ℕ) (room : ℕ) → Answered w c (take (feedOf w c t room .taken) t) (feedOf w c t room)
+pub feed-answered : (w : Console) (c t : List ℕ) (room : ℕ) → Answered w c (take (feedOf w c t room .taken) t) (feedOf w c t room)
 unfolding feedOf
 feed-answered w c t room = go (ltb room enough) refl
   where
@@ -71,7 +67,7 @@ feed-answered w c t room = go (ltb room enough) refl
     go false s = rw s (going-answered w c t room)
 
 -- with room for an answer a call uses at least one byte
-pub feed-moves : (w : World) (c t : List ℕ) (room : ℕ) → enough ≤ room → 0 < length t → 0 < feedOf w c t room .taken
+pub feed-moves : (w : Console) (c t : List ℕ) (room : ℕ) → enough ≤ room → 0 < length t → 0 < feedOf w c t room .taken
 unfolding feedOf going
 feed-moves w c [] room h l = absurd (omega arith)
 feed-moves w c (b ∷ bs) room h l = rw (le-ltb room enough h) (go (eqb b lineFeed) refl)
@@ -82,8 +78,10 @@ feed-moves w c (b ∷ bs) room h l = rw (le-ltb room enough h) (go (eqb b lineFe
 
 -- as a caller sees it
 pub next-moves :
-    (w : World) (held : List ℕ) (used : ℕ) (piece : List ℕ) (from : ℕ) (out held₀ out₀ : List ℕ) (r : FedResult) (m h o : List ℕ) →
-    Outcome (fedFrom w held used piece from out) piece from held₀ out₀ r m h o → enough ≤ length out → from < length piece → from < r .next
+    (w : Console) (held : List ℕ) (used : ℕ) (piece : List ℕ) (from : ℕ) (out held₀ out₀ : List ℕ) (r : FedResult)
+    (m h o : List ℕ) →
+    Outcome (fedFrom w held used piece from out) piece from held₀ out₀ r m h o → enough ≤ length out → from < length piece →
+    from < r .next
 next-moves w held used piece from out held₀ out₀ r m h o a room l =
     omega (
       arith,
@@ -92,7 +90,8 @@ next-moves w held used piece from out held₀ out₀ r m h o a room l =
     )
 
 -- and where it leaves a part of the block, the room is short
-going-waits : (w : World) (c t : List ℕ) (room : ℕ) → going w c t room .taken < length t → room - length (going w c t room .answers) < enough
+going-waits : (w : Console) (c t : List ℕ) (room : ℕ) → going w c t room .taken < length t →
+    room - length (going w c t room .answers) < enough
 unfolding going
 going-waits w c [] room = λ h. absurd (omega arith)
 going-waits w c (b ∷ bs) room =
@@ -115,7 +114,8 @@ going-waits w c (b ∷ bs) room =
         rw (e, s, length-append (reply w c) (ended-here .answers)) (λ h. omega (arith, f (omega arith)))
     go false e s r f g = rw e (λ h. g (omega arith))
 
-pub feed-waits : (w : World) (c t : List ℕ) (room : ℕ) → feedOf w c t room .taken < length t → room - length (feedOf w c t room .answers) < enough
+pub feed-waits : (w : Console) (c t : List ℕ) (room : ℕ) → feedOf w c t room .taken < length t →
+    room - length (feedOf w c t room .answers) < enough
 unfolding feedOf
 feed-waits w c t room = go (ltb room enough) refl
   where
@@ -126,38 +126,39 @@ feed-waits w c t room = go (ltb room enough) refl
 -- ## Calls one after another, and the whole text
 
 pub answered-append :
-    (w : World) (c x y : List ℕ) (f g : Feeding) → Answered w c x f → Answered (f .world) (f .carry) y g → Answered w c (x ++ y) (onward (f .taken) (f .answers) g)
+    (w : Console) (c x y : List ℕ) (f g : Feeding) → Answered w c x f → Answered (f .console) (f .carry) y g →
+    Answered w c (x ++ y) (onward (f .taken) (f .answers) g)
 answered-append w c x y f g a b =
     let first = fed c x .lines in
     let second = fed (fed c x .carry) y .lines in
     record {
-      world = rw (fed-append c x y) (rw (a .world, a .carry) at (b .world) ∙ sym (world-append w first second));
-      answers = rw (fed-append c x y) (rw (a .answers, rw (a .world, a .carry) at (b .answers)) (sym (answers-append w first second)));
+      console = rw (fed-append c x y) (rw (a .console, a .carry) at (b .console) ∙ sym (console-append w first second));
+      answers = rw (fed-append c x y) (rw (a .answers, rw (a .console, a .carry) at (b .answers)) (sym (answers-append w first second)));
       carry = rw (fed-append c x y) (rw (a .carry) at (b .carry));
     }
 
--- however a text was divided, the answers, the world and the carry are the same
+-- however a text was divided, the answers, the console and the carry are the same
 pub any-division :
-    (w : World) (c x : List ℕ) (f g : Feeding) → Answered w c x f → Answered w c x g →
-    (f .world ≡ g .world) × (f .answers ≡ g .answers) × (f .carry ≡ g .carry)
-any-division w c x f g a b = (a .world ∙ sym (b .world), a .answers ∙ sym (b .answers), a .carry ∙ sym (b .carry))
+    (w : Console) (c x : List ℕ) (f g : Feeding) → Answered w c x f → Answered w c x g →
+    (f .console ≡ g .console) × (f .answers ≡ g .answers) × (f .carry ≡ g .carry)
+any-division w c x f g a b = (a .console ∙ sym (b .console), a .answers ∙ sym (b .answers), a .carry ∙ sym (b .carry))
 
 -- lines that are answered cut are answered
-cut-next : (w : World) (l : List ℕ) → next w (cut l) ≡ next w l
+cut-next : (w : Console) (l : List ℕ) → next w (cut l) ≡ next w l
 cut-next w l = rw (line-cut (w .desk) (w .memory) l)
 
-cut-reply : (w : World) (l : List ℕ) → reply w (cut l) ≡ reply w l
+cut-reply : (w : Console) (l : List ℕ) → reply w (cut l) ≡ reply w l
 cut-reply w l = ap (λ (t : Turn). t .answer) (line-cut (w .desk) (w .memory) l)
 
-answers-cut : (w : World) (ls : List (List ℕ)) → answersTo w (map cut ls) ≡ answersTo w ls
+answers-cut : (w : Console) (ls : List (List ℕ)) → answersTo w (map cut ls) ≡ answersTo w ls
 unfolding answersTo
 answers-cut w [] = refl
 answers-cut w (l ∷ ls) = rw (cut-reply w l, cut-next w l) (ap (λ (x : List ℕ). reply w l ++ x) (answers-cut (next w l) ls))
 
 -- a whole text from the empty carry, its last line without its end too: the answers are those to its lines, one after another
 pub session :
-    (w : World) (t : List ℕ) (f : Feeding) → Answered w [] t f →
-    f .answers ++ answersTo (f .world) (ended (f .carry)) ≡ answersTo w (linesOf t)
+    (w : Console) (t : List ℕ) (f : Feeding) → Answered w [] t f →
+    f .answers ++ answersTo (f .console) (ended (f .carry)) ≡ answersTo w (linesOf t)
 session w t f a =
-    rw (a .answers, a .world, a .carry)
+    rw (a .answers, a .console, a .carry)
     (sym (answers-append w (fed [] t .lines) (ended (fed [] t .carry))) ∙ ap (answersTo w) (whole-lines t) ∙ answers-cut w (linesOf t))

@@ -1,5 +1,6 @@
 -- The turns of the code's loop: what is done, and what is left to be done, make the whole.
-use Rattle.common.specs.Words.{ℕ, suc, _+_, _-_, _<_, _≤_, arith, zero-add, List, [], _++_, append-nil, _≡_, refl, sym, ap, _∙_, length, take, drop}
+use Rattle.common.specs.Words.{ℕ, suc, _+_, _-_, _<_, _≤_, arith, zero-add, List, [], _++_, append-nil, _≡_, refl, sym, ap, _∙_, length}
+use Rattle.common.specs.Words.{take, drop}
 use Rattle.common.specs.Words.{length-take, length-drop, length-append, sets, length-sets, sets-eq, length-take-le, take-at, drop-drop, lt-ltb}
 use Rattle.common.specs.Words.{le-ltb}
 use borrow.Rule.Slice.PartMut.{midOf, putMid}
@@ -13,12 +14,12 @@ use Rattle.lines.specs.Lines.{kept, cut}
 use Rattle.lines.specs.Whole.{cut-short}
 use Rattle.lines.specs.Ends.{run, endOf, run-le}
 use Rattle.lines.specs.Held.{keptOf, heldOf, held-carry}
-use Rattle.feed.specs.Answers.{World, next, reply}
+use Rattle.feed.specs.Answers.{Console, next, reply}
 use Rattle.feed.specs.Feed.{enough, Feeding, onward, feedOf}
 use Rattle.feed.specs.Laws.{lineFed, onward-onward, going-line, going-tail}
 use Rattle.console.specs.Fits.{answer-fits}
 use Rattle.feed.specs.Step.{put-sets}
-use Rattle.feed.specs.Outcome.{worldOf, Outcome}
+use Rattle.feed.specs.Outcome.{consoleOf, Outcome}
 
 -- ## Answers in the output buffer
 
@@ -36,7 +37,8 @@ stored-take out xs w h =
     let e : length (take w out) ≡ w = length-take-le w out (omega arith) in
     rw (sets-eq xs out w h) (take-at (take w out ++ xs) (drop (w + length xs) out) (w + length xs) (omega (arith, e, length-append (take w out) xs)))
 
-pub stored-more : {out₀ out : List ℕ} {w : ℕ} (xs : List ℕ) → Stored out₀ out w → w + length xs ≤ length out → Stored out₀ (sets out w xs) (w + length xs)
+pub stored-more : {out₀ out : List ℕ} {w : ℕ} (xs : List ℕ) → Stored out₀ out w → w + length xs ≤ length out →
+    Stored out₀ (sets out w xs) (w + length xs)
 stored-more {out₀} {out} {w} xs s h =
     let e : length (take w out) ≡ w = length-take-le w out (s .fits) in
     record {
@@ -55,15 +57,16 @@ pub record Underway (f : Feeding) (piece : List ℕ) (from : ℕ) (held₀ out�
   pub held-size : length held ≡ length held₀
   pub stored : Stored out₀ out w
   pub sound : Kept d
-  pub left : f ≡ onward (at - from) (take w out) (feedOf (worldOf d memory) (take u held) (drop at piece) (length out - w))
+  pub left : f ≡ onward (at - from) (take w out) (feedOf (consoleOf d memory) (take u held) (drop at piece) (length out - w))
 
 pub underway-first :
-    (piece : List ℕ) (from : ℕ) (memory held out : List ℕ) (d : Desk) (u : ℕ) → from ≤ length piece → u ≤ kept → kept ≤ length held → Kept d →
-    Underway (feedOf (worldOf d memory) (take u held) (drop from piece) (length out)) piece from held out memory held out d u from 0
+    (piece : List ℕ) (from : ℕ) (memory held out : List ℕ) (d : Desk) (u : ℕ) → from ≤ length piece → u ≤ kept →
+    kept ≤ length held → Kept d →
+    Underway (feedOf (consoleOf d memory) (take u held) (drop from piece) (length out)) piece from held out memory held out d u from 0
 underway-first piece from memory held out d u a b h k =
     let e : from - from ≡ 0 = omega arith in
     let g : length out - 0 ≡ length out = omega arith in
-    let z = feedOf (worldOf d memory) (take u held) (drop from piece) (length out) in
+    let z = feedOf (consoleOf d memory) (take u held) (drop from piece) (length out) in
     record {
       past = omega arith;
       inside = a;
@@ -85,13 +88,14 @@ pub record Turned (d : Desk) (memory bytes out : List ℕ) (w : ℕ) : Type 0 wh
 
 -- with room and a line end, feeding goes on with the line
 going-on :
-    (w : World) (c t line : List ℕ) (room : ℕ) → enough ≤ room → run t < length t → line ≡ cut (c ++ take (run t) t) → cut c ≡ c →
+    (w : Console) (c t line : List ℕ) (room : ℕ) → enough ≤ room → run t < length t → line ≡ cut (c ++ take (run t) t) →
+    cut c ≡ c →
     feedOf w c t room ≡ lineFed w line t room
 unfolding feedOf
 going-on w c t line room h l e s = rw (le-ltb room enough h, e) (going-line w c t room s l)
 
 same-feeding :
-    (w : World) {j k : ℕ} {xs ys t u : List ℕ} {m n : ℕ} → j ≡ k → xs ≡ ys → t ≡ u → m ≡ n →
+    (w : Console) {j k : ℕ} {xs ys t u : List ℕ} {m n : ℕ} → j ≡ k → xs ≡ ys → t ≡ u → m ≡ n →
     onward j xs (feedOf w [] t m) ≡ onward k ys (feedOf w [] u n)
 same-feeding w a b c d = rw (a, b, c, d)
 
@@ -103,7 +107,7 @@ module _ {f : Feeding} {piece : List ℕ} {from : ℕ} {held₀ out₀ memory he
   -- nothing more is answered: what is left is the carry, and k bytes that it took
   finish :
       (k used′ : ℕ) (held′ : List ℕ) →
-      f ≡ record { world = worldOf d memory; carry = take used′ held′; taken = at - from + k; answers = take w out ++ [] } →
+      f ≡ record { console = consoleOf d memory; carry = take used′ held′; taken = at - from + k; answers = take w out ++ [] } →
       used′ ≤ kept → length held′ ≡ length held → at + k ≤ length piece →
       Outcome f piece from held₀ out₀ (record { desk = d; used = used′; next = at + k; written = w }) memory held′ out
   finish k used′ held′ e b l h =
@@ -123,7 +127,8 @@ module _ {f : Feeding} {piece : List ℕ} {from : ℕ} {held₀ out₀ memory he
       })
 
   -- the room is short
-  pub turn-short : length out - w < enough → Outcome f piece from held₀ out₀ (record { desk = d; used = u; next = at; written = w }) memory held out
+  pub turn-short : length out - w < enough →
+      Outcome f piece from held₀ out₀ (record { desk = d; used = u; next = at; written = w }) memory held out
   unfolding feedOf
   turn-short h =
       let a : at + 0 ≡ at = omega arith in
@@ -138,9 +143,10 @@ module _ {f : Feeding} {piece : List ℕ} {from : ℕ} {held₀ out₀ memory he
   turn-tail h e =
       let xs = drop at piece in
       let a : endOf piece at ≡ at + length xs = omega (arith, run-le xs, length-drop at piece, t .inside) in
-      let g : feedOf (worldOf d memory) (take u held) xs (length out - w)
-      ≡ record { world = worldOf d memory; carry = cut (take u held ++ xs); taken = length xs; answers = [] } =
-      rw (le-ltb (length out - w) enough h) (going-tail (worldOf d memory) (take u held) xs (length out - w) carry-short (omega (arith, length-drop at piece))) in
+      let g : feedOf (consoleOf d memory) (take u held) xs (length out - w)
+      ≡ record { console = consoleOf d memory; carry = cut (take u held ++ xs); taken = length xs; answers = [] } =
+      rw (le-ltb (length out - w) enough h)
+      (going-tail (consoleOf d memory) (take u held) xs (length out - w) carry-short (omega (arith, length-drop at piece))) in
       rw a
       (finish (length xs) (keptOf u xs) (heldOf held u xs)
       (t .left ∙ ap (onward (at - from) (take w out)) g ∙ rw (held-carry held u xs (t .used-fits) (t .held-fits)))
@@ -150,20 +156,20 @@ module _ {f : Feeding} {piece : List ℕ} {from : ℕ} {held₀ out₀ memory he
   pub turn-line :
       (line held′ : List ℕ) → enough ≤ length out - w → endOf piece at < length piece →
       line ≡ cut (take u held ++ take (endOf piece at - at) (drop at piece)) → length held′ ≡ length held →
-      length (reply (worldOf d memory) line) ≤ enough →
-      let v = next (worldOf d memory) line in
-      let xs = reply (worldOf d memory) line in
+      length (reply (consoleOf d memory) line) ≤ enough →
+      let v = next (consoleOf d memory) line in
+      let xs = reply (consoleOf d memory) line in
       Underway f piece from held₀ out₀ (v .memory) held′ (sets out w xs) (v .desk) 0 (endOf piece at + 1) (w + length xs)
   unfolding endOf
   turn-line line held′ h e l k b =
       let p = drop at piece in
-      let xs = reply (worldOf d memory) line in
+      let xs = reply (consoleOf d memory) line in
       let room = length out - w in
       let fits : w + length xs ≤ length out = omega (arith, t .stored .fits) in
       let n : endOf piece at - at ≡ run p = omega arith in
       let m : at + suc (run p) ≡ endOf piece at + 1 = omega arith in
-      let g : feedOf (worldOf d memory) (take u held) p room ≡ lineFed (worldOf d memory) line p room =
-      going-on (worldOf d memory) (take u held) p line room h (omega (arith, length-drop at piece)) (rw n at l) carry-short in
+      let g : feedOf (consoleOf d memory) (take u held) p room ≡ lineFed (consoleOf d memory) line p room =
+      going-on (consoleOf d memory) (take u held) p line room h (omega (arith, length-drop at piece)) (rw n at l) carry-short in
       record {
         past = omega (arith, t .past);
         inside = omega arith;
@@ -174,19 +180,20 @@ module _ {f : Feeding} {piece : List ℕ} {from : ℕ} {held₀ out₀ memory he
         sound = line-keeps d memory line (t .sound);
         left =
             t .left ∙ ap (onward (at - from) (take w out)) g ∙ onward-onward (at - from) (suc (run p)) (take w out) xs _
-            ∙ same-feeding (next (worldOf d memory) line) (omega (arith, t .past)) (sym (stored-take out xs w fits))
+            ∙ same-feeding (next (consoleOf d memory) line) (omega (arith, t .past)) (sym (stored-take out xs w fits))
             (drop-drop (suc (run p)) at piece ∙ ap (λ (i : ℕ). drop i piece) m)
             (omega (arith, length-sets out w xs));
       }
 
   -- the line is answered as the code does it
   pub turn-step :
-      {bytes line held′ : List ℕ} (x : Turned d memory bytes out w) (e : ℕ) → enough ≤ length out - w → e ≡ endOf piece at → e < length piece →
+      {bytes line held′ : List ℕ} (x : Turned d memory bytes out w) (e : ℕ) → enough ≤ length out - w → e ≡ endOf piece at →
+      e < length piece →
       bytes ≡ framedBytes line → line ≡ cut (take u held ++ part piece at (e - at)) → length held′ ≡ length held →
       Underway f piece from held₀ out₀ (x .memory′) held′ (putMid w (length out - w) out (x .after)) (x .result .desk) 0 (e + 1)
       (w + x .result .written)
   turn-step {line = line} {held′ = held′} x e h a i b l k =
-      let xs = reply (worldOf d memory) line in
+      let xs = reply (consoleOf d memory) line in
       let s : Takes (lineTurn d memory line) (midOf w (length out - w) out) (x .result) (x .memory′) (x .after) =
       rw (line-framed d memory line, ← b) (x .takes) in
       let o : putMid w (length out - w) out (x .after) ≡ sets out w xs =

@@ -12,14 +12,13 @@ use plan::Plan;
 ghost use Rattle.common.specs.Words.{_≡_, _++_, _-_, _≤_, length, take};
 ghost use Rattle.common.specs.Stores.{part};
 ghost use Rattle.digits.specs.Hex.{mostBytes};
-ghost use Rattle.console.specs.Desk.{Takes, withState};
+ghost use Rattle.console.specs.Desk.{Kept, Takes, withState};
 ghost use Rattle.console.specs.CallLines.{stateOf};
 ghost use Rattle.console.specs.Framing.{framedBytes};
-ghost use Rattle.console.specs.Kept.{Kept};
 ghost use Rattle.lines.specs.Lines.{kept, cut};
 ghost use Rattle.feed.specs.Feed.{enough};
-ghost use Rattle.feed.specs.Last.{lastTurn};
-ghost use Rattle.feed.specs.Outcome.{worldOf, fedFrom, Outcome};
+ghost use Rattle.feed.specs.Answers.{lastTurn};
+ghost use Rattle.feed.specs.Outcome.{consoleOf, fedFrom, Outcome};
 
 // Room that every answer has.
 pub const ENOUGH: usize = 64;
@@ -32,12 +31,7 @@ pub struct Fed {
 }
 
 // The desk with the columns of its state put back.
-fn desk_with(
-    desk: Desk,
-    tick: Tick,
-    sent: [u64; Plan::CELLS],
-    reading: [u64; Plan::QUEUES],
-) -> Desk
+fn desk_with(desk: Desk, tick: Tick, sent: [u64; Plan::CELLS], reading: [u64; Plan::QUEUES]) -> Desk
     ensures { λ r. ⌜ r ≡ withState desk (stateOf tick sent reading) ⌝ }
 {
     console::with_state(
@@ -71,7 +65,8 @@ fn bytes_until(
     end: usize,
     bytes: &mut [u8],
 ) -> usize
-    requires { ⌜ (used ≤ kept) × (kept ≤ length (now held)) × (at ≤ end) × (end ≤ length (now piece)) × (mostBytes ≤ length (now bytes)) ⌝ }
+    requires { ⌜ (used ≤ kept) × (kept ≤ length (now held)) × (at ≤ end) × (end ≤ length (now piece))
+        × (mostBytes ≤ length (now bytes)) ⌝ }
     ensures { λ r. ⌜ (r ≤ mostBytes)
         × (take r (now (bytes .exit)) ≡ framedBytes (cut (take used (now (held .entry)) ++ part (now (piece .entry)) at (end - at)))) ⌝ }
 {
@@ -91,7 +86,7 @@ pub fn feed(
 ) -> Fed
     requires { ⌜ (used ≤ kept) × (kept ≤ length (now held)) × (from ≤ length (now piece)) × Kept desk ⌝ }
     ensures { λ r. ⌜ Outcome
-        (fedFrom (worldOf desk (now (memory .entry))) (now (held .entry)) used (now (piece .entry)) from (now (out .entry)))
+        (fedFrom (consoleOf desk (now (memory .entry))) (now (held .entry)) used (now (piece .entry)) from (now (out .entry)))
         (now (piece .entry)) from (now (held .entry)) (now (out .entry)) r (now (memory .exit)) (now (held .exit)) (now (out .exit)) ⌝ }
     ensures { λ r. ⌜ Kept (r .desk) ⌝ }
 {
@@ -159,7 +154,8 @@ pub fn finish(
     out: &mut [u8],
 ) -> Stepped
     requires { ⌜ (used ≤ kept) × (kept ≤ length (now held)) × (enough ≤ length (now out)) × Kept desk ⌝ }
-    ensures { λ r. ⌜ Takes (lastTurn desk (now (memory .entry)) (take used (now (held .entry)))) (now (out .entry)) r (now (memory .exit)) (now (out .exit)) ⌝ }
+    ensures { λ r. ⌜ Takes (lastTurn desk (now (memory .entry)) (take used (now (held .entry)))) (now (out .entry)) r (now (memory .exit))
+        (now (out .exit)) ⌝ }
 {
     if used == 0 {
         return Stepped { desk, written: 0 };

@@ -28,7 +28,8 @@ next a b out before after i e f g = f ∙ rw e (piece a b out 0 i (omega arith))
 
 -- the line feed
 pub ended : (bytes out before after : List ℕ) (at count : ℕ) →
-    before ≡ sets out 0 (digits bytes) → (count ≡ at + 1) × (after ≡ sets before at (10 ∷ [])) → 2 * length bytes ≡ at → Written bytes out count after
+    before ≡ sets out 0 (digits bytes) → (count ≡ at + 1) × (after ≡ sets before at (10 ∷ [])) → 2 * length bytes ≡ at →
+    Written bytes out count after
 unfolding lineOf
 ended bytes out before after at count e f g =
     let z : 0 + length (digits bytes) ≡ at = omega (arith, digits-length bytes) in
@@ -36,7 +37,8 @@ ended bytes out before after at count e f g =
 
 -- a line of a byte, a number and one thing more
 pub three : (a b c out o p q after : List ℕ) (i j at count : ℕ) →
-    o ≡ sets out 0 (digits a) → p ≡ sets o i (digits b) → q ≡ sets p j (digits c) → (count ≡ at + 1) × (after ≡ sets q at (10 ∷ [])) →
+    o ≡ sets out 0 (digits a) → p ≡ sets o i (digits b) → q ≡ sets p j (digits c) →
+    (count ≡ at + 1) × (after ≡ sets q at (10 ∷ [])) →
     2 * length a ≡ i → i + 2 * length b ≡ j → j + 2 * length c ≡ at → Written (a ++ (b ++ c)) out count after
 three a b c out o p q after i j at count e f g h x y z =
     let l : length (a ++ b) ≡ length a + length b = length-append a b in

@@ -7,7 +7,8 @@ use plan::refusal::Refusal;
 ghost use Rattle.common.specs.Words.{_≡_, [], _∷_, _+_, _≤_, length, sets};
 ghost use Rattle.plan.specs.Limits.{queueLimit, payloadBytes};
 ghost use Rattle.digits.specs.Hex.{digits};
-ghost use Rattle.frames.specs.Answers.{longestAnswer, eachSize, sizesBytes, storedBytes, messageBytes, gapBytes, emptyBytes, refusalBytes, badBytes};
+ghost use Rattle.frames.specs.Answers.{longestAnswer, eachSize, sizesBytes, storedBytes, messageBytes, gapBytes, emptyBytes, refusalBytes};
+ghost use Rattle.frames.specs.Answers.{badBytes};
 ghost use Rattle.frames.specs.Writing.{Written};
 
 // The line feed behind so many digits, and how long the line is.

@@ -11,7 +11,7 @@ use Rattle.plan.specs.Limits.{lastTick, payloadBytes}
 use Rattle.plan.specs.Plan.{queueAt}
 use Rattle.slots.specs.Slots.{numberIn, stored}
 use Rattle.running.specs.Calls as running
-use Rattle.mailbox.specs.Calls.{lastSent, sendLines, receiveLines, sendAnswer, sendState, sendMemory, look, found, receiveState}
+use Rattle.mailbox.specs.Calls.{unsentAt, sendLines, receiveLines, sendAnswer, sendState, sendMemory, look, found, receiveState}
 use Rattle.mailbox.specs.Calls.{steppedOn, runningNumber, receivingJob, nextNumber, slotIn, slotFor}
 use Rattle.mailbox.specs.Outcomes.{sentState, readPast, movedTo, state-clear}
 use Rattle.mailbox.specs.Refused.{send-keeps}
@@ -23,7 +23,7 @@ use Rattle.history.specs.History.{accepted, reads, readings, Tells, ofMe
 -- ## When a call is accepted
 
 abbrev pub CanSend : Plan → World → ℕ → ℕ → ℕ → List ℕ → Type 0
-CanSend p w q i t payload = SendTaken (w .state .tick .0) (lastSent (w .state) q i) p (w .memory) q i t payload
+CanSend p w q i t payload = SendTaken (w .state .tick .0) (unsentAt (w .state) q i) p (w .memory) q i t payload
 
 abbrev pub CanReceive : Plan → World → ℕ → ℕ → Type 0
 CanReceive p w q t = ReceiveTaken (w .state .tick .0) p (w .memory) q t
@@ -125,7 +125,7 @@ module _ (p : Plan) (w : World) where
 
       go : Passed lines ⊎ ((r : Refusal) × Stopped lines r) → Step p w (send q i t payload) (after p w (send q i t payload))
       go (inl h) =
-          let can : CanSend p w q i t payload = send-passed (w .state .tick .0) (lastSent (w .state) q i) p (w .memory) q i t payload h in
+          let can : CanSend p w q i t payload = send-passed (w .state .tick .0) (unsentAt (w .state) q i) p (w .memory) q i t payload h in
           subst (λ (x : World). Step p w (send q i t payload) x) (sym (after-send q i t payload can)) (sends can)
       go (inr h) =
           let e : sendSays p w q i t payload ≡ Sent.Refused (h .0) = stopped-refused lines (h .0) Sent.Refused _ (h .1) in

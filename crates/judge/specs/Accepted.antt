@@ -1,5 +1,6 @@
 -- What holds of a running call exactly when no line of the table refuses it, in plain facts.
-use Rattle.common.specs.Words.{ℕ, _+_, _-_, _*_, _<_, _≤_, arith, Bool, true, false, not, _||_, List, _∷_, _≡_, refl, sym, _∙_, ltb, eqb, length}
+use Rattle.common.specs.Words.{ℕ, _+_, _-_, _*_, _<_, _≤_, arith, Bool, true, false, not, _||_, List, _∷_, _≡_, refl, sym, _∙_, ltb, eqb}
+use Rattle.common.specs.Words.{length}
 use Rattle.common.specs.Words.{getD, ltb-true, ltb-false, leb-false, eqb-true, not-false, le-ltb, lt-ltb, lt-leb, eq-eqb}
 use Rattle.common.specs.Tests.{passed}
 use Rattle.common.specs.Totals.{sum-next}
@@ -36,7 +37,8 @@ slots-end {p} s =
     omega (arith, s .place-is (p .queues - 1) (omega (arith, s .checked .some-queue)), rw e at (sum-next (sizeAt p) (p .queues - 1)))
 
 -- what `slots_of` asks
-pub slots-fit : {p : Plan} → Sound p → (1 ≤ p .queues) × (p .queues ≤ queueLimit) × (placeAt p (p .queues - 1) + sizeAt p (p .queues - 1) ≤ mostSlots)
+pub slots-fit : {p : Plan} → Sound p →
+    (1 ≤ p .queues) × (p .queues ≤ queueLimit) × (placeAt p (p .queues - 1) + sizeAt p (p .queues - 1) ≤ mostSlots)
 slots-fit s = (s .checked .some-queue, s .checked .queues-fit, omega (arith, slots-end s, s .total-fits))
 
 -- and what `short` then leaves of the lines
@@ -71,7 +73,8 @@ pub connected-fits : (p : Plan) → soundPlan p ≡ true → (q i : ℕ) {a : Bo
 connected-fits p s q i e h =
     let x = connected-iff p q i .0 (passed e h) in sender-fits (usable (sound-iff p .0 s) q (x .0)) (x .1)
 
-pub connected-counted : (p : Plan) → soundPlan p ≡ true → (q i : ℕ) {a : Bool} → a ≡ connected p q i → not a ≡ false → q < queueLimit
+pub connected-counted : (p : Plan) → soundPlan p ≡ true → (q i : ℕ) {a : Bool} → a ≡ connected p q i → not a ≡ false →
+    q < queueLimit
 connected-counted p s q i e h = usable (sound-iff p .0 s) q (connected-iff p q i .0 (passed e h) .0) .queue-fits
 
 -- ## 7 and 8
@@ -106,7 +109,8 @@ pub record SendTaken (before earliest : ℕ) (p : Plan) (m : List ℕ) (q i t : 
   pub running : t < runningDeadline (queueAt p q) i t
   pub unsent : earliest ≤ runningJob (queueAt p q) i t
 
-pub send-passed : (before unsent : ℕ) (p : Plan) (m : List ℕ) (q i t : ℕ) (payload : List ℕ) → Passed (sendLines before unsent p m q i t payload) →
+pub send-passed : (before unsent : ℕ) (p : Plan) (m : List ℕ) (q i t : ℕ) (payload : List ℕ) →
+    Passed (sendLines before unsent p m q i t payload) →
     SendTaken before unsent p m q i t payload
 send-passed before unsent p m q i t payload h =
     let g = h .1 .1 in
@@ -163,8 +167,13 @@ receive-passed before p m q t h =
 
 pub receive-passes : {before : ℕ} {p : Plan} {m : List ℕ} {q t : ℕ} → ReceiveTaken before p m q t → Passed (receiveLines before p m q t)
 receive-passes {before} {p} {m} {q} {t} h =
-    let nine : not (ltb q (p .queues)) ≡ false = rw (lt-ltb q (p .queues) (h .queue)) in
-    (seven (h .ground), (le-ltb _ _ (h .ground .room), (nine, (le-ltb _ _ (h .tick-within), (le-ltb _ _ (h .in-order), (lt-leb _ _ (h .wanted), tt))))))
+    let nine : not (ltb q (p .queues)) ≡ false = rw (lt-ltb q (p .queues) (h .queue)) in (
+      seven (h .ground),
+      (
+        le-ltb _ _ (h .ground .room),
+        (nine, (le-ltb _ _ (h .tick-within), (le-ltb _ _ (h .in-order), (lt-leb _ _ (h .wanted), tt)))),
+      ),
+    )
 
 pub receive-taken : (before : ℕ) (p : Plan) (m : List ℕ) (q t : ℕ) {v : Verdict} →
     v ≡ verdict (receiveLines before p m q t) → v ≡ Verdict.Clear → ReceiveTaken before p m q t

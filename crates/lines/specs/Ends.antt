@@ -3,7 +3,7 @@ use Rattle.common.specs.Words.{ℕ, zero, suc, _+_, _<_, _≤_, arith, add-one,
 use Rattle.common.specs.Words.{append-assoc}
 use Rattle.common.specs.Words.{append-nil, _≡_, refl, ap, _∙_, eqb, length, take, drop, getD, drop-of-length-le, drop-cons, eq-eqb, ne-eqb}
 use Rattle.common.specs.Words.{eqb-false}
-use Rattle.lines.specs.Lines.{lineFeed, cut, after, fed}
+use Rattle.lines.specs.Lines.{lineFeed, cut, linesBefore, fed}
 use Rattle.lines.specs.Whole.{cut-append, cut-short, cut-length}
 
 -- how many bytes stand before the first line feed; all where there is none
@@ -47,7 +47,7 @@ carry-more c b xs = cut-append (c ++ (b ∷ [])) xs ∙ ap cut (append-assoc c (
 -- a line ends in the text: it was begun by the carry, and the rest is fed from the empty carry
 pub fed-line :
     (c t : List ℕ) → cut c ≡ c → run t < length t →
-    fed c t ≡ after (cut (c ++ take (run t) t) ∷ []) (fed [] (drop (suc (run t)) t))
+    fed c t ≡ linesBefore (cut (c ++ take (run t) t) ∷ []) (fed [] (drop (suc (run t)) t))
 unfolding fed run
 fed-line c [] h l = absurd (omega arith)
 fed-line c (b ∷ bs) h l = go (eqb b lineFeed) refl (fed-line (cut (c ++ (b ∷ []))) bs (cut-short _ (cut-length (c ++ (b ∷ [])))))
@@ -55,13 +55,13 @@ fed-line c (b ∷ bs) h l = go (eqb b lineFeed) refl (fed-line (cut (c ++ (b ∷
     go :
         (e : Bool) → eqb b lineFeed ≡ e →
         (run bs < length bs →
-        fed (cut (c ++ (b ∷ []))) bs ≡ after (cut (cut (c ++ (b ∷ [])) ++ take (run bs) bs) ∷ []) (fed [] (drop (suc (run bs)) bs))) →
-        fed c (b ∷ bs) ≡ after (cut (c ++ take (run (b ∷ bs)) (b ∷ bs)) ∷ []) (fed [] (drop (suc (run (b ∷ bs))) (b ∷ bs)))
+        fed (cut (c ++ (b ∷ []))) bs ≡ linesBefore (cut (cut (c ++ (b ∷ [])) ++ take (run bs) bs) ∷ []) (fed [] (drop (suc (run bs)) bs))) →
+        fed c (b ∷ bs) ≡ linesBefore (cut (c ++ take (run (b ∷ bs)) (b ∷ bs)) ∷ []) (fed [] (drop (suc (run (b ∷ bs))) (b ∷ bs)))
     go true e f = rw (e, append-nil c, h)
     go false e f =
         rw e
         (f (omega (arith, rw e at l))
-        ∙ ap (λ (x : List ℕ). after (x ∷ []) (fed [] (drop (suc (run bs)) bs))) (carry-more c b (take (run bs) bs)))
+        ∙ ap (λ (x : List ℕ). linesBefore (x ∷ []) (fed [] (drop (suc (run bs)) bs))) (carry-more c b (take (run bs) bs)))
 
 -- none ends in it: all of it is carried
 pub fed-tail : (c t : List ℕ) → cut c ≡ c → length t ≤ run t → fed c t ≡ record { carry = cut (c ++ t); lines = [] }

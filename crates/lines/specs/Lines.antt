@@ -17,13 +17,13 @@ pub record Fed : Type 0 where
   pub carry : List ℕ
   pub lines : List (List ℕ)
 
-abbrev pub after : List (List ℕ) → Fed → Fed
-after ls f = record { carry = f .carry; lines = ls ++ f .lines }
+abbrev pub linesBefore : List (List ℕ) → Fed → Fed
+linesBefore ls f = record { carry = f .carry; lines = ls ++ f .lines }
 
 -- the first line that ends in the text was begun by the carry
 unfoldable pub fed : List ℕ → List ℕ → Fed
 fed c [] = record { carry = c; lines = [] }
-fed c (b ∷ bs) = cond (eqb b lineFeed) (after (c ∷ []) (fed [] bs)) (fed (cut (c ++ (b ∷ []))) bs)
+fed c (b ∷ bs) = cond (eqb b lineFeed) (linesBefore (c ∷ []) (fed [] bs)) (fed (cut (c ++ (b ∷ []))) bs)
 
 -- at the end of the input: a last line without its end, where at least one byte of it came
 abbrev pub ended : List ℕ → List (List ℕ)
@@ -35,7 +35,7 @@ ended (b ∷ bs) = (b ∷ bs) ∷ []
 -- one block after another
 unfoldable pub fedAll : List ℕ → List (List ℕ) → Fed
 fedAll c [] = record { carry = c; lines = [] }
-fedAll c (x ∷ xs) = after (fed c x .lines) (fedAll (fed c x .carry) xs)
+fedAll c (x ∷ xs) = linesBefore (fed c x .lines) (fedAll (fed c x .carry) xs)
 
 -- the text that the blocks are a division of
 unfoldable pub joined : List (List ℕ) → List ℕ

@@ -5,8 +5,7 @@ use Rattle.common.specs.Words.{subst, _∙_, eqb}
 use Rattle.calendar.specs.Calendar.{message}
 use Rattle.plan.specs.Plan.{queueAt}
 use Rattle.plan.specs.Says.{Said}
-use Rattle.mailbox.specs.Calls.{receivingJob}
-use Rattle.mailbox.specs.Says.{sentSays}
+use Rattle.mailbox.specs.Calls.{receivingJob, sentSays}
 use Rattle.frames.specs.Answers.{lineOf}
 use Rattle.console.specs.Desk.{sentBytes, filler, receivedBytes}
 use Rattle.history.specs.History.{send, receive, World, sendSays, receiveSays, Sends, accepted, readings, reads}

@@ -22,7 +22,7 @@ use Rattle.frames.specs.Frames.{frameOf, payloadIn}
 use Rattle.frames.specs.Answers.{eachSize, sizesBytes, storedBytes, messageBytes, gapBytes, emptyBytes, lineOf}
 use Rattle.console.specs.Framing.{framedBytes}
 use Rattle.console.specs.Desk.{rowTurn, withTask, withQueue, planned, withRun, goTurn, withState, callTurn, bytesTurn, lineTurn}
-use Rattle.feed.specs.Answers.{worldAfter, answersTo}
+use Rattle.feed.specs.Answers.{consoleAfter, answersTo}
 use Rattle.logs.specs.Types.{Plan}
 use Rattle.logs.specs.Said.{saidIn}
 use Rattle.logs.specs.Log.{logOf, opened, sessionLog, deskAfter, AcceptedIn, StoredIn, linesTo, EndedIn, Among}
@@ -77,7 +77,7 @@ unfolding
     tabled longQueue sized tableJudged planOf table bytesOf numberFrom stored cleared running.sendAnswer running.sendMemory
     running.look viewOf startAnswer startMemory sendState receiveState found digit isLine bytesIn digits valueAt inBytes frameOf payloadIn eachSize
     sizesBytes storedBytes messageBytes gapBytes emptyBytes lineOf framedBytes rowTurn withTask withQueue planned withRun goTurn withState callTurn
-    bytesTurn lineTurn worldAfter answersTo logOf linesTo saidIn
+    bytesTurn lineTurn consoleAfter answersTo logOf linesTo saidIn
 computed = (
   refl,
   refl,

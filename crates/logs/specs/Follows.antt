@@ -21,7 +21,7 @@ use Rattle.logs.specs.Entries.{sent-lines, received-stores, received-emp
 
 -- ## One line more
 
-abbrev nextBy : Turn → feed.World
+abbrev nextBy : Turn → feed.Console
 nextBy t = record { desk = t .desk; memory = t .memory }
 
 abbrev entryBy : List ℕ → Turn → Entry
@@ -44,7 +44,7 @@ grow {A} {B} {C} {D} {E} e f g = (λ a. to (e .0 a), λ x. e .1 (from x))
     from (inl d) = inl (f .1 d)
     from (inr x) = inr (inl (g .1 x))
 
-module _ {p : Plan} {m : List ℕ} {H : History} {w : feed.World} {log : Log} (r : Runs p m H w log) (line : List ℕ) where
+module _ {p : Plan} {m : List ℕ} {H : History} {w : feed.Console} {log : Log} (r : Runs p m H w log) (line : List ℕ) where
   abbrev d : Desk
   d = w .desk
 
@@ -203,16 +203,16 @@ module _ {p : Plan} {m : List ℕ} {H : History} {w : feed.World} {log : Log} (r
 
 -- ## Lines one after another
 
-pub run-lines : {p : Plan} {m : List ℕ} {H : History} {w : feed.World} {log : Log} → Runs p m H w log → (ls : List (List ℕ)) →
-    Runs p m (goOn H (callsIn ls)) (feed.worldAfter w ls) (log ++ logOf w ls)
-unfolding feed.worldAfter logOf
+pub run-lines : {p : Plan} {m : List ℕ} {H : History} {w : feed.Console} {log : Log} → Runs p m H w log → (ls : List (List ℕ)) →
+    Runs p m (goOn H (callsIn ls)) (feed.consoleAfter w ls) (log ++ logOf w ls)
+unfolding feed.consoleAfter logOf
 run-lines {p} {m} {H} {w} {log} r [] = subst (λ (x : Log). Runs p m H w x) (sym (append-nil log)) r
 run-lines {p} {m} {H} {w} {log} r (l ∷ ls) =
     let e : Entry = record { line = l; answer = feed.reply w l } in
     let calls : List Call = callMade (payloadOf l) (frameIn l) in
-    subst (λ (x : Log). Runs p m (goOn H (calls ++ callsIn ls)) (feed.worldAfter (feed.next w l) ls) x)
+    subst (λ (x : Log). Runs p m (goOn H (calls ++ callsIn ls)) (feed.consoleAfter (feed.next w l) ls) x)
     (append-assoc log (e ∷ []) (logOf (feed.next w l) ls))
-    (subst (λ (K : History). Runs p m K (feed.worldAfter (feed.next w l) ls) ((log ++ (e ∷ [])) ++ logOf (feed.next w l) ls))
+    (subst (λ (K : History). Runs p m K (feed.consoleAfter (feed.next w l) ls) ((log ++ (e ∷ [])) ++ logOf (feed.next w l) ls))
     (sym (goOn-append H calls (callsIn ls))) (run-lines (run-line r l) ls))
 
 -- ## Before the accepted 03
@@ -245,11 +245,11 @@ silent-more {log} h e quiet = record {
     end p q k (inr (inr x)) = x
 
 -- Lines from a desk that does not run: it never runs, or one of them is the accepted 03, and the rest are a history.
-pub data Comes (m : List ℕ) (w : feed.World) (log : Log) (ls : List (List ℕ)) : Type 0 where
-  never : feed.worldAfter w ls .desk .running ≡ false → Comes m w log ls
+pub data Comes (m : List ℕ) (w : feed.Console) (log : Log) (ls : List (List ℕ)) : Type 0 where
+  never : feed.consoleAfter w ls .desk .running ≡ false → Comes m w log ls
   started : (p : Plan) (before since : List (List ℕ)) (go : List ℕ) → ls ≡ before ++ (go ∷ since) →
       frameIn go ≡ Frame.Go → Made p → Begins p m →
-      Runs p m (history (callsIn since)) (feed.worldAfter w ls) (log ++ logOf w ls) → Comes m w log ls
+      Runs p m (history (callsIn since)) (feed.consoleAfter w ls) (log ++ logOf w ls) → Comes m w log ls
 
 module _ (m : List ℕ) where
   -- the run begins with this line
@@ -269,27 +269,27 @@ module _ (m : List ℕ) where
       }
 
   -- a line in front
-  first : (w : feed.World) (log : Log) (l : List ℕ) (ls : List (List ℕ)) →
+  first : (w : feed.Console) (log : Log) (l : List ℕ) (ls : List (List ℕ)) →
       Comes m (feed.next w l) (log ++ (record { line = l; answer = feed.reply w l } ∷ [])) ls → Comes m w log (l ∷ ls)
-  unfolding feed.worldAfter logOf
+  unfolding feed.consoleAfter logOf
   first w log l ls (never h) = never h
   first w log l ls (started p before since go e asked made begins r) =
       started p (l ∷ before) since go (ap (λ (x : List (List ℕ)). l ∷ x) e) asked made begins
-      (subst (λ (x : Log). Runs p m (history (callsIn since)) (feed.worldAfter (feed.next w l) ls) x)
+      (subst (λ (x : Log). Runs p m (history (callsIn since)) (feed.consoleAfter (feed.next w l) ls) x)
       (append-assoc log (record { line = l; answer = feed.reply w l } ∷ []) (logOf (feed.next w l) ls)) r)
 
   -- the line that starts, and lines after it
-  begun : {p : Plan} (w : feed.World) (log : Log) (l : List ℕ) (ls : List (List ℕ)) → frameIn l ≡ Frame.Go → Made p → Begins p m →
+  begun : {p : Plan} (w : feed.Console) (log : Log) (l : List ℕ) (ls : List (List ℕ)) → frameIn l ≡ Frame.Go → Made p → Begins p m →
       Runs p m start (feed.next w l) (log ++ (record { line = l; answer = feed.reply w l } ∷ [])) → Comes m w log (l ∷ ls)
-  unfolding feed.worldAfter logOf
+  unfolding feed.consoleAfter logOf
   begun {p} w log l ls asked made begins r =
       started p [] ls l refl asked made begins
-      (subst (λ (x : Log). Runs p m (history (callsIn ls)) (feed.worldAfter (feed.next w l) ls) x)
+      (subst (λ (x : Log). Runs p m (history (callsIn ls)) (feed.consoleAfter (feed.next w l) ls) x)
       (append-assoc log (record { line = l; answer = feed.reply w l } ∷ []) (logOf (feed.next w l) ls)) (run-lines r ls))
 
-  module _ (w : feed.World) (log : Log) (l : List ℕ) (ls : List (List ℕ)) (lent : w .memory ≡ m) (silent : Silent log) where
+  module _ (w : feed.Console) (log : Log) (l : List ℕ) (ls : List (List ℕ)) (lent : w .memory ≡ m) (silent : Silent log) where
     by-turn : {f : Frame} {t : Turn} → frameIn l ≡ f → lineTurn (w .desk) (w .memory) l ≡ t → Waits (w .desk) (w .memory) f t →
-        ((v : feed.World) (log′ : Log) → v .desk .running ≡ false → v .memory ≡ m → Silent log′ → Comes m v log′ ls) →
+        ((v : feed.Console) (log′ : Log) → v .desk .running ≡ false → v .memory ≡ m → Silent log′ → Comes m v log′ ls) →
         Comes m w log (l ∷ ls)
     by-turn {f} {t} asked e (waits off here quiet) rest =
         first w log l ls
@@ -307,8 +307,8 @@ module _ (m : List ℕ) where
         opening : Plan → Turn
         opening p = says (withRun (w .desk) p fresh) (startMemory p (w .memory)) (sizesBytes (p .size) (p .queues))
 
-  comes : (w : feed.World) (log : Log) (ls : List (List ℕ)) → w .desk .running ≡ false → w .memory ≡ m → Silent log → Comes m w log ls
-  unfolding feed.worldAfter
+  comes : (w : feed.Console) (log : Log) (ls : List (List ℕ)) → w .desk .running ≡ false → w .memory ≡ m → Silent log → Comes m w log ls
+  unfolding feed.consoleAfter
   comes w log [] off lent silent = never off
   comes w log (l ∷ ls) off lent silent =
       by-turn w log l ls lent silent refl (line-turn (w .desk) (w .memory) l) (waiting (w .desk) (w .memory) off (payloadOf l) (frameIn l))

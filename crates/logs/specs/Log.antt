@@ -8,7 +8,7 @@ use Rattle.mailbox.specs.Calls.{receivingJob}
 use Rattle.history.specs.History.{Call, send, receive}
 use Rattle.frames.specs.Answers.{messageBytes, gapBytes, lineOf}
 use Rattle.console.specs.Desk.{newDesk}
-use Rattle.feed.specs.Answers.{World, next, reply, worldAfter}
+use Rattle.feed.specs.Answers.{Console, next, reply, consoleAfter}
 use Rattle.logs.specs.Types.{Tick, Plan, Frame, Desk}
 use Rattle.logs.specs.Said.{frameIn, payloadOf, codeIn, saidIn}
 
@@ -20,7 +20,7 @@ abbrev pub Log : Type 0
 Log = List Entry
 
 -- the log of lines that are answered one after another
-unfoldable pub logOf : World → List (List ℕ) → Log
+unfoldable pub logOf : Console → List (List ℕ) → Log
 logOf w [] = []
 logOf w (l ∷ ls) = record { line = l; answer = reply w l } ∷ logOf (next w l) ls
 
@@ -29,8 +29,8 @@ unfoldable pub written : Log → List ℕ
 written [] = []
 written (e ∷ es) = e .answer ++ written es
 
--- the world that a session of the program begins in, with bytes of any kind in its memory
-abbrev pub opened : List ℕ → World
+-- the console that a session of the program begins with: a new desk, and bytes of any kind in the memory
+abbrev pub opened : List ℕ → Console
 opened m = record { desk = newDesk; memory = m }
 
 -- the log of a session, and the desk that it leaves
@@ -38,7 +38,7 @@ abbrev pub sessionLog : List ℕ → List (List ℕ) → Log
 sessionLog m lines = logOf (opened m) lines
 
 abbrev pub deskAfter : List ℕ → List (List ℕ) → Desk
-deskAfter m lines = worldAfter (opened m) lines .desk
+deskAfter m lines = consoleAfter (opened m) lines .desk
 
 -- the line is an 03, and it is answered 81
 pub record Accepts (e : Entry) : Type 0 where

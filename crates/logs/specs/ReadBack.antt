@@ -3,8 +3,7 @@
 use Rattle.common.specs.Words.{ℕ, Bool, true, false, cond, List, _≤_, arith, _≡_, refl, leb}
 use Rattle.plan.specs.Limits.{taskLimit, queueLimit, lastTick}
 use Rattle.plan.specs.Says.{Said}
-use Rattle.mailbox.specs.Calls.{startAnswer, sendAnswer, look}
-use Rattle.mailbox.specs.Says.{sentSays}
+use Rattle.mailbox.specs.Calls.{startAnswer, sendAnswer, look, sentSays}
 use Rattle.running.specs.View.{viewOf}
 use Rattle.digits.specs.Numbers.{valueAt, inBytes}
 use Rattle.digits.specs.NumberLaws.{value-back}

@@ -5,8 +5,7 @@ use Rattle.common.specs.Table.{table}
 use Rattle.plan.specs.Limits.{taskLimit, queueLimit}
 use Rattle.plan.specs.Plan.{sizeAt}
 use Rattle.plan.specs.Says.{Said, refusedSays}
-use Rattle.mailbox.specs.Calls.{startAnswer, sendAnswer, look}
-use Rattle.mailbox.specs.Says.{sentSays}
+use Rattle.mailbox.specs.Calls.{startAnswer, sendAnswer, look, sentSays}
 use Rattle.digits.specs.Hex.{bytesIn}
 use Rattle.digits.specs.Numbers.{valueAt}
 use Rattle.frames.specs.Frames.{frameOf, payloadIn}

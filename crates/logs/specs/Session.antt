@@ -22,12 +22,12 @@ lineFor r = lineOf (readingBytes (r .answer) (r .shown))
 
 -- ## A run
 
--- the desk's own part of a world, as a history has it
-abbrev pub stateAndMemory : feed.World → World
+-- of a console the state and the memory, which are a history's world
+abbrev pub stateAndMemory : feed.Console → World
 stateAndMemory w = record { state = w .desk .state; memory = w .memory }
 
 -- plan p was started on memory m, the calls H were made since then, and the log shows what they came to
-pub record Runs (p : Plan) (m : List ℕ) (H : History) (w : feed.World) (log : Log) : Type 0 where
+pub record Runs (p : Plan) (m : List ℕ) (H : History) (w : feed.Console) (log : Log) : Type 0 where
   pub on : w .desk .running ≡ true
   -- the plan is the one that was started, which is the one that the table's planning makes
   pub plan-is : w .desk .plan ≡ p
@@ -52,7 +52,7 @@ pub record AsHistory (m : List ℕ) (lines : List (List ℕ)) : Type 0 where
   pub asked : frameIn go ≡ Frame.Go
   pub made : Made (deskAfter m lines .plan)
   pub begins : Begins (deskAfter m lines .plan) m
-  pub runs : Runs (deskAfter m lines .plan) m (history (callsIn since)) (feed.worldAfter (opened m) lines) (sessionLog m lines)
+  pub runs : Runs (deskAfter m lines .plan) m (history (callsIn since)) (feed.consoleAfter (opened m) lines) (sessionLog m lines)
 
 abbrev pub calls : {m : List ℕ} {lines : List (List ℕ)} → AsHistory m lines → History
 calls s = history (callsIn (s .since))

@@ -35,7 +35,7 @@ has-started m lines on = go (session-comes m lines)
           asked = asked;
           made = subst Made e made;
           begins = subst (λ (x : Plan). Begins x m) e begins;
-          runs = subst (λ (x : Plan). Runs x m (history (callsIn since)) (feed.worldAfter (opened m) lines) (sessionLog m lines)) e r;
+          runs = subst (λ (x : Plan). Runs x m (history (callsIn since)) (feed.consoleAfter (opened m) lines) (sessionLog m lines)) e r;
         }
 
 -- ## An 81
@@ -71,8 +71,8 @@ module _ (d : Desk) (m : List ℕ) where
   acts-on on receives = on
   acts-on on (idles e) = on
 
-runs-on : (w : feed.World) (ls : List (List ℕ)) → w .desk .running ≡ true → feed.worldAfter w ls .desk .running ≡ true
-unfolding feed.worldAfter
+runs-on : (w : feed.Console) (ls : List (List ℕ)) → w .desk .running ≡ true → feed.consoleAfter w ls .desk .running ≡ true
+unfolding feed.consoleAfter
 runs-on w [] on = on
 runs-on w (l ∷ ls) on =
     let d : Desk = w .desk in
@@ -80,8 +80,8 @@ runs-on w (l ∷ ls) on =
     (rw (line-turn d (w .memory) l) (acts-on d (w .memory) on (running-acts d (w .memory) (payloadOf l) (frameIn l) on)))
 
 -- an 03 that is answered 81 is accepted
-pub accepted-runs : (w : feed.World) (ls : List (List ℕ)) → AcceptedIn (logOf w ls) → feed.worldAfter w ls .desk .running ≡ true
-unfolding feed.worldAfter logOf
+pub accepted-runs : (w : feed.Console) (ls : List (List ℕ)) → AcceptedIn (logOf w ls) → feed.consoleAfter w ls .desk .running ≡ true
+unfolding feed.consoleAfter logOf
 accepted-runs w [] a = absurd a
 accepted-runs w (l ∷ ls) (inl a) =
     let d : Desk = w .desk in
@@ -92,24 +92,24 @@ accepted-runs w (l ∷ ls) (inr a) = accepted-runs (feed.next w l) ls a
 
 -- ## Logs of lines one after another
 
-pub log-append : (w : feed.World) (a b : List (List ℕ)) → logOf w (a ++ b) ≡ logOf w a ++ logOf (feed.worldAfter w a) b
-unfolding logOf feed.worldAfter
+pub log-append : (w : feed.Console) (a b : List (List ℕ)) → logOf w (a ++ b) ≡ logOf w a ++ logOf (feed.consoleAfter w a) b
+unfolding logOf feed.consoleAfter
 log-append w [] b = refl
 log-append w (l ∷ a) b = ap (λ (x : Log). record { line = l; answer = feed.reply w l } ∷ x) (log-append (feed.next w l) a b)
 
 -- what the fold of feed writes is the log's answers
-pub log-written : (w : feed.World) (ls : List (List ℕ)) → feed.answersTo w ls ≡ written (logOf w ls)
+pub log-written : (w : feed.Console) (ls : List (List ℕ)) → feed.answersTo w ls ≡ written (logOf w ls)
 unfolding logOf written feed.answersTo
 log-written w [] = refl
 log-written w (l ∷ ls) = ap (λ (x : List ℕ). feed.reply w l ++ x) (log-written (feed.next w l) ls)
 
 -- a session that goes on
 pub runs-later : (m : List ℕ) (lines later : List (List ℕ)) (s : AsHistory m lines) →
-    Runs (deskAfter m lines .plan) m (goOn (calls s) (callsIn later)) (feed.worldAfter (feed.worldAfter (opened m) lines) later)
+    Runs (deskAfter m lines .plan) m (goOn (calls s) (callsIn later)) (feed.consoleAfter (feed.consoleAfter (opened m) lines) later)
     (sessionLog m (lines ++ later))
 runs-later m lines later s =
     subst
-    (λ (x : Log). Runs (deskAfter m lines .plan) m (goOn (calls s) (callsIn later)) (feed.worldAfter (feed.worldAfter (opened m) lines) later) x)
+    (λ (x : Log). Runs (deskAfter m lines .plan) m (goOn (calls s) (callsIn later)) (feed.consoleAfter (feed.consoleAfter (opened m) lines) later) x)
     (sym (log-append (opened m) lines later)) (run-lines (s .runs) later)
 
 -- ## Readings and their lines
@@ -146,7 +146,7 @@ same-plan {m} {m′} {lines} {lines′} s s′ same =
     s′ .runs .planned-is ∙ ap (λ (x : Planned). x .plan) e ∙ sym (s .runs .planned-is)
 
 pub same-runs : {p : Plan} → Made p → {m m′ : List ℕ} → Begins p m → Begins p m′ →
-    {H K : History} {w w′ : feed.World} {log log′ : Log} →
+    {H K : History} {w w′ : feed.Console} {log log′ : Log} →
     Runs p m H w log → Runs p m′ K w′ log′ → (q k : ℕ) →
     ((n : ℕ) (payload : List ℕ) → StoredIn log q n payload ↔ StoredIn log′ q n payload) → EndedIn p q k log → EndedIn p q k log′ →
     linesTo p q k log ≡ linesTo p q k log′

@@ -15,7 +15,7 @@ use Rattle.frames.specs.Answers.{messageBytes, lineOf}
 use Rattle.console.specs.Desk.{filler}
 use Rattle.lines.specs.Lines.{lineFeed, ended}
 use Rattle.lines.specs.Whole.{linesOf}
-use Rattle.feed.specs.Answers.{worldAfter, answersTo}
+use Rattle.feed.specs.Answers.{consoleAfter, answersTo}
 use Rattle.feed.specs.Feed.{Feeding}
 use Rattle.feed.specs.Session.{Answered, session}
 use Rattle.history.specs.History.{History, Begins, goOn, readBy, numbers, windowNumbers, ReadToEnd}
@@ -32,7 +32,7 @@ use Rattle.logs.specs.Started.{has-started, accepted-runs, log-written, 
 
 -- What the program writes of a text, in whatever blocks the text came and with or without a line feed at its end, is the log's answers.
 pub output-is-the-log : (m text : List ℕ) (f : Feeding) → Answered (opened m) [] text f →
-    f .answers ++ answersTo (f .world) (ended (f .carry)) ≡ written (sessionLog m (linesOf text))
+    f .answers ++ answersTo (f .console) (ended (f .carry)) ≡ written (sessionLog m (linesOf text))
 output-is-the-log m text f a = session (opened m) text f a ∙ log-written (opened m) (linesOf text)
 
 -- The right 85 for a message is 85, its number in 6 bytes, and then the very digits that stood behind the tick in the 04 that stored it.
@@ -106,6 +106,6 @@ same-lines m m′ lines lines′ accepted accepted′ table q k agree end end′
     let s′ : AsHistory m′ lines′ = lines-are-a-history m′ lines′ accepted′ in
     let e : deskAfter m′ lines′ .plan ≡ deskAfter m lines .plan = same-plan s s′ table in
     same-runs (s .made) (s .begins) (subst (λ (x : Plan). Begins x m′) e (s′ .begins)) (s .runs)
-    (subst (λ (x : Plan). Runs x m′ (calls s′) (worldAfter (opened m′) lines′) (sessionLog m′ lines′)) e (s′ .runs)) q k agree end
+    (subst (λ (x : Plan). Runs x m′ (calls s′) (consoleAfter (opened m′) lines′) (sessionLog m′ lines′)) e (s′ .runs)) q k agree end
     (subst (λ (x : Plan). EndedIn x q k (sessionLog m′ lines′)) e end′)
     ∙ ap (λ (x : Plan). linesTo x q k (sessionLog m′ lines′)) (sym e)

@@ -15,7 +15,7 @@ use Rattle.plan.specs.Refusals.{Line}
 use Rattle.plan.specs.Verdicts.{Passed, Stopped, passed-or-stopped, passed-good, stopped-refused}
 use Rattle.tables.specs.Table.{tabled}
 use Rattle.planning.specs.Accepted.{plan-lines}
-use Rattle.planning.specs.Planning.{longQueue, firstLines, tableLines, refusedPlan, accepted as acceptedPlan, planOf}
+use Rattle.planning.specs.Planning.{longQueue, firstLines, tableLines, refusedPlan, acceptedPlan, planOf}
 use Rattle.mailbox.specs.Calls.{startLines, startAnswer, sendLines, sendAnswer, receiveLines, look, runningJob, receivingJob}
 use Rattle.mailbox.specs.Refused.{start-refused, send-refused, receive-refused}
 use Rattle.history.specs.History.{World, send, accepted, ofGap}

@@ -17,10 +17,10 @@ use Rattle.running.specs.Calls as running
 use Rattle.running.specs.Bounds.{slot-inside, count-small}
 use Rattle.running.specs.Outcomes.{started-clear, start-is-clear, sent-clear, send-is-clear}
 use Rattle.mailbox.specs.Types.{Number, Slot, Plan, State, Started, Sent, Received, Verdict}
-use Rattle.mailbox.specs.Calls.{startAnswer, startMemory, sendLines, runningJob, runningNumber, runningDeadline, slotFor, lastSent}
-use Rattle.mailbox.specs.Calls.{sendAnswer, sendState, sendMemory, receiveLines, receivingJob, nextNumber, found, look}
+use Rattle.mailbox.specs.Calls.{startAnswer, startMemory, sendLines, runningJob, runningNumber, runningDeadline, slotFor, unsentAt}
+use Rattle.mailbox.specs.Calls.{sendAnswer, sendState, sendMemory, receiveLines, receivingJob, nextNumber, found, look, acceptedReceive}
 use Rattle.running.specs.View.{viewOf}
-use Rattle.mailbox.specs.Outcomes.{accepted, state-clear}
+use Rattle.mailbox.specs.Outcomes.{state-clear}
 
 -- "Start clears the slots of the plan": each reads as never written
 pub start-unwritten : (p : Plan) (m : List ℕ) (k : ℕ) → startAnswer p m ≡ Started.Ready → k < slotsOf p →
@@ -31,7 +31,7 @@ start-unwritten p m k e h =
 -- ## A send and then a receive of its number
 
 module _ (s : State) (p : Plan) (m : List ℕ) (q i t : ℕ) (payload : List ℕ) (n : Number) (at : Slot)
-    (sent : sendAnswer s p m q i t payload ≡ Sent.Stored n at) where
+    (told : sendAnswer s p m q i t payload ≡ Sent.Stored n at) where
   abbrev state : State
   state = sendState s p m q i t payload
 
@@ -42,15 +42,15 @@ module _ (s : State) (p : Plan) (m : List ℕ) (q i t : ℕ) (payload : List ℕ
   place = slotFor p q (n .0)
 
   clear : verdict (sendLines s p m q i t payload) ≡ Verdict.Clear
-  clear = send-is-clear (s .tick .0) (lastSent s q i) p m q i t payload n at sent
+  clear = send-is-clear (s .tick .0) (unsentAt s q i) p m q i t payload n at told
 
-  taken : SendTaken (s .tick .0) (lastSent s q i) p m q i t payload
-  taken = send-taken (s .tick .0) (lastSent s q i) p m q i t payload refl clear
+  taken : SendTaken (s .tick .0) (unsentAt s q i) p m q i t payload
+  taken = send-taken (s .tick .0) (unsentAt s q i) p m q i t payload refl clear
 
   -- the number that was answered is the running job's
   pub answered : n ≡ message (runningNumber (queueAt p q) i t)
   answered =
-      let e : sendAnswer s p m q i t payload ≡ _ = sent-clear (s .tick .0) (lastSent s q i) p m q i t payload refl clear .0 in cc
+      let e : sendAnswer s p m q i t payload ≡ _ = sent-clear (s .tick .0) (unsentAt s q i) p m q i t payload refl clear .0 in cc
 
   number-fits : n .0 < 2 ^ 64
   number-fits =
@@ -63,15 +63,15 @@ module _ (s : State) (p : Plan) (m : List ℕ) (q i t : ℕ) (payload : List ℕ
       ))
 
   memory-is : memory ≡ stored payloadBytes m place (n .0) payload
-  memory-is = rw answered (sent-clear (s .tick .0) (lastSent s q i) p m q i t payload refl clear .1)
+  memory-is = rw answered (sent-clear (s .tick .0) (unsentAt s q i) p m q i t payload refl clear .1)
 
   -- what the slot then holds
-  pub sent-number : numberIn payloadBytes memory place ≡ n .0
+  pub sent-number : numberIn payloadBytes (sendMemory s p m q i t payload) (slotFor p q (n .0)) ≡ n .0
   sent-number =
       rw memory-is
       (number-same payloadBytes m payload place (n .0) (taken .whole) (slot-inside (taken .ground) q (taken .queue) (n .0)) number-fits)
 
-  pub sent-payload : payloadIn payloadBytes memory place ≡ payload
+  pub sent-payload : payloadIn payloadBytes (sendMemory s p m q i t payload) (slotFor p q (n .0)) ≡ payload
   sent-payload =
       rw memory-is (payload-same payloadBytes m payload place (n .0) (taken .whole) (slot-inside (taken .ground) q (taken .queue) (n .0)))
 
@@ -79,14 +79,16 @@ module _ (s : State) (p : Plan) (m : List ℕ) (q i t : ℕ) (payload : List ℕ
   same-length = rw memory-is (length-stored payloadBytes m payload place (n .0) (taken .whole))
 
   -- the view of the message, where the filler is of full length
-  pub sent-view : (filler : List ℕ) → length filler ≡ payloadBytes → viewOf (Received.Message n (slot place)) memory filler ≡ payload
+  pub sent-view : (filler : List ℕ) → length filler ≡ payloadBytes →
+      viewOf (Received.Message n (slot (slotFor p q (n .0)))) (sendMemory s p m q i t payload) filler ≡ payload
   unfolding viewOf
   sent-view filler h =
       let b : slotAt payloadBytes place + slotBytes ≤ length memory = rw same-length (slot-inside (taken .ground) q (taken .queue) (n .0)) in
       rw (eq-eqb (length filler) payloadBytes h, le-leb (slotAt payloadBytes place + slotBytes) (length memory) b) sent-payload
 
   module _ (u : ℕ) (within : u ≤ lastTick) (wanted : u < wantedUntil (queueAt p q) (receivingJob (queueAt p q) u))
-      (next : nextNumber state p q u ≡ n .0) (window : n .0 ≤ last (queueAt p q) (receivingJob (queueAt p q) u)) where
+      (next : nextNumber (sendState s p m q i t payload) p q u ≡ n .0)
+      (window : n .0 ≤ last (queueAt p q) (receivingJob (queueAt p q) u)) where
     -- its deadline is not past the receiver's release, so the send was not after the receive
     in-order : state .tick .0 ≤ u
     in-order =
@@ -114,8 +116,10 @@ module _ (s : State) (p : Plan) (m : List ℕ) (q i t : ℕ) (payload : List ℕ
     )
 
     -- "a message answer holds the number and its slot counted from the start of memory"
-    pub sent-received : look state p memory q u ≡ Received.Message n (slot place)
+    pub sent-received :
+        look (sendState s p m q i t payload) p (sendMemory s p m q i t payload) q u ≡ Received.Message n (slot (slotFor p q (n .0)))
     unfolding running.look found
     sent-received =
-        by-clear (receiveLines state p memory q u) Received.Refused (accepted state p memory q u) (passed-clear (receiveLines state p memory q u) passed)
+        by-clear (receiveLines state p memory q u) Received.Refused (acceptedReceive state p memory q u)
+        (passed-clear (receiveLines state p memory q u) passed)
         ∙ rw (next, le-ltb (last (queueAt p q) (receivingJob (queueAt p q) u)) (n .0) window, eq-eqb _ _ sent-number)

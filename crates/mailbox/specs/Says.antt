@@ -1,33 +1,16 @@
--- What the running calls answer in document 01's numbers: the code by which the console names each kind of answer, and its values.
+-- What the running calls answer in document 01's numbers, refusal by refusal.
 use Rattle.common.specs.Words.{ℕ, _*_, cond, not, _||_, List, [], _∷_, _≡_, leb, ltb, eqb, length}
 use Rattle.model.specs.Model.{wantedUntil}
 use Rattle.plan.specs.Limits.{lastTick, payloadBytes, slotBytes}
 use Rattle.plan.specs.Plan.{queueAt, slotsOf}
-use Rattle.plan.specs.Says.{Said, refusedSays, no}
+use Rattle.plan.specs.Says.{no}
 use Rattle.plan.specs.Rules.{soundPlan, connected}
 use Rattle.mailbox.specs.Types.{Plan, State, Started, Sent, Received}
 use Rattle.judge.specs.Lines.{sentAlready}
 use Rattle.running.specs.Calls as running
 use Rattle.mailbox.specs.Calls.{startLines, startAnswer, sendLines, runningJob, runningDeadline, runningNumber, slotIn}
-use Rattle.mailbox.specs.Calls.{lastSent, sendAnswer, receiveLines, receivingJob, look}
+use Rattle.mailbox.specs.Calls.{unsentAt, sendAnswer, receiveLines, receivingJob, look, acceptedReceive, startedSays, sentSays, receivedSays}
 use Rattle.plan.specs.Verdicts.{judged-map}
-use Rattle.mailbox.specs.Outcomes.{accepted}
-
-abbrev pub startedSays : Started → Said
-startedSays Started.Ready = (0x81, [])
-startedSays (Started.Refused r) = refusedSays r
-
--- number, and slot within its queue
-abbrev pub sentSays : Sent → Said
-sentSays (Sent.Stored n at) = (0x84, n .0 ∷ at .0 ∷ [])
-sentSays (Sent.Refused r) = refusedSays r
-
--- a message's number, and slot from the start of memory; a gap's number and sender
-abbrev pub receivedSays : Received → Said
-receivedSays (Received.Message n at) = (0x85, n .0 ∷ at .0 ∷ [])
-receivedSays (Received.Gap n row) = (0x86, n .0 ∷ row ∷ [])
-receivedSays Received.Empty = (0x87, [])
-receivedSays (Received.Refused r) = refusedSays r
 
 -- "Running calls test 7, 8, 14, 9, 11, 10, 12, 13, as far as each applies"
 pub start-says : (p : Plan) (m : List ℕ) →
@@ -48,7 +31,7 @@ pub send-says : (s : State) (p : Plan) (m : List ℕ) (q i t : ℕ) (payload : L
     (cond (ltb lastTick t || ltb lastTick (runningDeadline (queueAt p q) i t)) (no 11)
     (cond (ltb t (s .tick .0)) (no 10)
     (cond (leb (runningDeadline (queueAt p q) i t) t) (no 12)
-    (cond (sentAlready (lastSent s q i) (runningJob (queueAt p q) i t)) (no 13)
+    (cond (sentAlready (unsentAt s q i) (runningJob (queueAt p q) i t)) (no 13)
     (0x84, n ∷ slotIn p q n ∷ []))))))))
 unfolding running.sendAnswer
 send-says s p m q i t payload = judged-map sentSays (sendLines s p m q i t payload) Sent.Refused _
@@ -61,6 +44,6 @@ pub receive-says : (s : State) (p : Plan) (m : List ℕ) (q t : ℕ) →
     (cond (ltb lastTick t) (no 11)
     (cond (ltb t (s .tick .0)) (no 10)
     (cond (leb (wantedUntil (queueAt p q) (receivingJob (queueAt p q) t)) t) (no 12)
-    (receivedSays (accepted s p m q t)))))))
+    (receivedSays (acceptedReceive s p m q t)))))))
 unfolding running.look
-receive-says s p m q t = judged-map receivedSays (receiveLines s p m q t) Received.Refused (accepted s p m q t)
+receive-says s p m q t = judged-map receivedSays (receiveLines s p m q t) Received.Refused (acceptedReceive s p m q t)

@@ -2,7 +2,7 @@
 -- back and of the memory after it.
 use Rattle.common.specs.Words.{List, _≡_, sym, _∙_, ℕ}
 use Rattle.mailbox.specs.Types.{Plan, State, Starting, Sending, Receiving}
-use Rattle.mailbox.specs.Outcomes.{StartGives, SendGives, ReceiveGives}
+use Rattle.mailbox.specs.Calls.{StartGives, SendGives, ReceiveGives}
 
 one : {A : Type 0} {x y z : A} → x ≡ z → y ≡ z → x ≡ y
 one a b = a ∙ sym b

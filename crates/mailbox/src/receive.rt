@@ -3,7 +3,7 @@ use crate::Receiving;
 use crate::State;
 use calendar::Tick;
 use plan::Plan;
-ghost use Rattle.mailbox.specs.Outcomes.{ReceiveGives};
+ghost use Rattle.mailbox.specs.Calls.{ReceiveGives};
 
 impl State {
     // Reads the next number of the receiver's running job.

@@ -3,7 +3,7 @@ use crate::Sending;
 use crate::State;
 use calendar::Tick;
 use plan::Plan;
-ghost use Rattle.mailbox.specs.Outcomes.{SendGives};
+ghost use Rattle.mailbox.specs.Calls.{SendGives};
 
 impl State {
     // Stores the message of the task's running job.

@@ -4,8 +4,7 @@ use crate::State;
 use calendar::Tick;
 use plan::Plan;
 ghost use Rattle.common.specs.Words.{_≡_};
-ghost use Rattle.mailbox.specs.Calls.{fresh};
-ghost use Rattle.mailbox.specs.Outcomes.{StartGives};
+ghost use Rattle.mailbox.specs.Calls.{fresh, StartGives};
 
 impl State {
     // Nothing sent, nothing read, tick 0.

@@ -1,47 +1,16 @@
 -- What answering a block comes to: the desk, the memory and the carry are those of the lines of the bytes that were used, one after
--- another, and where every answer could be written no byte of the block is left. Leans on feed's fold over a block.
-use Rattle.common.specs.Words.{ℕ, _+_, _≤_, arith, true, List, _++_, _≡_, refl, sym, length, take, drop}
-use Rattle.common.specs.Words.{length-take-le, take-append-add}
-use lib.ListN.{take-append-drop}
-use Rattle.feed.specs.Answers.{World, worldAfter, answersTo}
-use Rattle.feed.specs.Feed.{Feeding}
-use Rattle.feed.specs.Outcome.{worldOf, fedFrom, Outcome}
-use Rattle.feed.specs.Session.{answered-append, feed-answered}
-use Rattle.feed.specs.declared.Fed.{Fed}
+-- another, and where every answer could be written no byte of the block is left. Leans on feed's answers to lines.
+use Rattle.common.specs.Words.{ℕ, _≤_, true, List, _≡_, length, take}
+use Rattle.feed.specs.Answers.{Console, consoleOf, consoleAfter}
 use Rattle.lines.specs.Lines.{fed}
 use Rattle.mulchpenny.specs.declared.Turn.{Turn}
 
--- from the world w and the carry c, the text x comes to this world and this carry
-pub record Comes (w : World) (c x : List ℕ) (after : World) (carry : List ℕ) : Type 0 where
-  pub world : after ≡ worldAfter w (fed c x .lines)
+-- from the console w and the carry c, the text x comes to this console and this carry
+pub record Comes (w : Console) (c x : List ℕ) (after : Console) (carry : List ℕ) : Type 0 where
+  pub console : after ≡ consoleAfter w (fed c x .lines)
   pub carried : carry ≡ fed c x .carry
 
-pub record BlockGives (w : World) (c piece : List ℕ) (t : Turn) (memory held : List ℕ) : Type 0 where
+pub record BlockGives (w : Console) (c piece : List ℕ) (t : Turn) (memory held : List ℕ) : Type 0 where
   pub inside : t .next ≤ length piece
-  pub comes : Comes w c (take (t .next) piece) (worldOf (t .desk) memory) (take (t .used) held)
+  pub comes : Comes w c (take (t .next) piece) (consoleOf (t .desk) memory) (take (t .used) held)
   pub whole : t .stream .is_open ≡ true → t .next ≡ length piece
-
--- ## The calls of feed, one after another
-
-pub comes-none : (w : World) (c piece : List ℕ) → Comes w c (take 0 piece) w c
-unfolding worldAfter fed
-comes-none w c piece = record { world = refl; carried = refl }
-
-take-on : (xs : List ℕ) (i n : ℕ) → i ≤ length xs → take i xs ++ take n (drop i xs) ≡ take (i + n) xs
-take-on xs i n h =
-    let e : length (take i xs) ≡ i = length-take-le i xs h in
-    sym (rw (e, take-append-drop i xs) at (take-append-add (take i xs) (drop i xs) n))
-
--- a call of feed goes on from where the block was left
-pub comes-on :
-    {w : World} {c : List ℕ} (v : World) (held : List ℕ) (u : ℕ) (piece : List ℕ) (at : ℕ) (out : List ℕ)
-    {held₀ out₀ : List ℕ} {r : Fed} {m h o : List ℕ} → at ≤ length piece → Comes w c (take at piece) v (take u held) →
-    Outcome (fedFrom v held u piece at out) piece at held₀ out₀ r m h o →
-    Comes w c (take (r .next) piece) (worldOf (r .desk) m) (take (r .used) h)
-comes-on {w} {c} v held u piece at out i a f =
-    let g = fedFrom v held u piece at out in
-    let before : Feeding = record { world = v; carry = take u held; taken = at; answers = answersTo w (fed c (take at piece) .lines) } in
-    let b = answered-append w c (take at piece) (take (g .taken) (drop at piece)) before g
-    (record { world = a .world; answers = refl; carry = a .carried }) (feed-answered v (take u held) (drop at piece) (length out)) in
-    let e = take-on piece at (g .taken) i in
-    rw (f .carry-is, f .memory-is, f .result) (record { world = rw e at (b .world); carried = rw e at (b .carry) })

@@ -5,9 +5,9 @@ use blocks::Stream;
 use console::Desk;
 use plan::Plan;
 ghost use Rattle.common.specs.Words.{_≡_, _<_, _≤_, false, length, take};
-ghost use Rattle.console.specs.Kept.{Kept};
+ghost use Rattle.console.specs.Desk.{Kept};
 ghost use Rattle.feed.specs.Feed.{enough};
-ghost use Rattle.feed.specs.Outcome.{worldOf};
+ghost use Rattle.feed.specs.Answers.{consoleOf};
 ghost use Rattle.lines.specs.Lines.{kept};
 ghost use Rattle.mulchpenny.specs.Block.{BlockGives};
 
@@ -33,7 +33,7 @@ fn answer_block(
     stream: Stream,
 ) -> Turn
     requires { ⌜ (used ≤ kept) × (kept ≤ length (now held)) × (enough ≤ length (now out)) × Kept desk ⌝ }
-    ensures { λ r. ⌜ BlockGives (worldOf desk (now (memory .entry))) (take used (now (held .entry))) (now (piece .entry))
+    ensures { λ r. ⌜ BlockGives (consoleOf desk (now (memory .entry))) (take used (now (held .entry))) (now (piece .entry))
         r (now (memory .exit)) (now (held .exit)) ⌝ }
     ensures { λ r. ⌜ (r .used ≤ kept) × Kept (r .desk) × (r .stream .left ≡ stream .left) ⌝ }
 {

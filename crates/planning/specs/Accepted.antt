@@ -20,7 +20,7 @@ use Rattle.plan.specs.declared.Plan.{Plan}
 use Rattle.plan.specs.declared.refusal.Refusal.{Refusal}
 use Rattle.sizing.specs.Cycle.{cycleShort, messagesFew}
 use Rattle.tables.specs.Table.{tabled}
-use Rattle.planning.specs.Planning.{longQueue, leastSize, leastSizes, sized, refusedPlan, firstLines, tableLines, accepted, tableJudged}
+use Rattle.planning.specs.Planning.{longQueue, leastSize, leastSizes, sized, refusedPlan, firstLines, tableLines, acceptedPlan, tableJudged}
 use Rattle.planning.specs.Planning.{planOf}
 pub use Rattle.planning.specs.Planning.{Made}
 use Rattle.planning.specs.TableLaws.{table-checked, long-within, size-at}
@@ -119,7 +119,7 @@ module _ (tasks queues : ℕ) (period deadline receiver : List ℕ) (square : Li
       λ i. record { answer = e i; plan = p } in
       let table = judged-good refusedPlan (tableJudged T) _ (λ r. not-accepted r p)
       (firstLines tasks queues period deadline receiver square) whole in
-      let good = judged-good refusedPlan (accepted T) _ (λ r. not-accepted r p) (tableLines T) (table .1) in
+      let good = judged-good refusedPlan (acceptedPlan T) _ (λ r. not-accepted r p) (tableLines T) (table .1) in
       let checked : Checked T =
       table-checked tasks queues period deadline receiver square (not-false _ (table .0 .0)) (none-bad _ tasks (table .0 .1 .0))
       (none-bad _ queues (table .0 .1 .1 .0)) in
@@ -133,7 +133,7 @@ module _ (tasks queues : ℕ) (period deadline receiver : List ℕ) (square : Li
   -- the rules in document 01's order, as one list: the first line that applies is the answer
   pub plan-lines : planOf tasks queues period deadline receiver square
       ≡ (let t = tabled tasks queues period deadline receiver square in
-      judged (firstLines tasks queues period deadline receiver square ++ tableLines t) refusedPlan (accepted t))
+      judged (firstLines tasks queues period deadline receiver square ++ tableLines t) refusedPlan (acceptedPlan t))
   unfolding planOf tableJudged
   plan-lines = refl
 
@@ -147,12 +147,13 @@ module _ (tasks queues : ℕ) (period deadline receiver : List ℕ) (square : Li
           planOf tasks queues period deadline receiver square .plan ≡ zeros
       go (inl h) =
           let good = plan-lines ∙ passed-good (firstLines tasks queues period deadline receiver square ++ tableLines T) refusedPlan
-          (accepted T) h in
+          (acceptedPlan T) h in
           let a : Answer.Refused r ≡ Answer.Accepted = sym e ∙ ap (λ (x : Planned). x .answer) good in
           absurd (let z : _≡_ {A = ℕ} 0 1 = cc in omega arith)
       go (inr h) =
           ap (λ (x : Planned). x .plan)
-          (plan-lines ∙ stopped-refused (firstLines tasks queues period deadline receiver square ++ tableLines T) (h .0) refusedPlan (accepted T)
+          (plan-lines ∙ stopped-refused (firstLines tasks queues period deadline receiver square ++ tableLines T) (h .0) refusedPlan
+          (acceptedPlan T)
           (h .1))
 
   module _ (yes : planOf tasks queues period deadline receiver square .answer ≡ Answer.Accepted) where

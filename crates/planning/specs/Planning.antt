@@ -59,14 +59,14 @@ tableLines t =
     ∷ slotLine t
     ∷ []
 
-abbrev pub accepted : Plan → Planned
-accepted t = record { answer = Answer.Accepted; plan = sized t }
+abbrev pub acceptedPlan : Plan → Planned
+acceptedPlan t = record { answer = Answer.Accepted; plan = sized t }
 
 unfoldable pub slotsJudged : Plan → Planned
-slotsJudged t = judged (slotLine t ∷ []) refusedPlan (accepted t)
+slotsJudged t = judged (slotLine t ∷ []) refusedPlan (acceptedPlan t)
 
 unfoldable pub tableJudged : Plan → Planned
-tableJudged t = judged (tableLines t) refusedPlan (accepted t)
+tableJudged t = judged (tableLines t) refusedPlan (acceptedPlan t)
 
 -- the first three, and all of them
 abbrev pub firstLines : ℕ → ℕ → List ℕ → List ℕ → List ℕ → List (List Bool) → List Line

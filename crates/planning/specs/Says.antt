@@ -7,7 +7,7 @@ use Rattle.plan.specs.Says.{Said, refusedSays, no}
 use Rattle.plan.specs.Verdicts.{judged-map}
 use Rattle.sizing.specs.Cycle.{cycleShort}
 use Rattle.tables.specs.Table.{tabled}
-use Rattle.planning.specs.Planning.{longQueue, leastSize, refusedPlan, firstLines, tableLines, accepted, planOf}
+use Rattle.planning.specs.Planning.{longQueue, leastSize, refusedPlan, firstLines, tableLines, acceptedPlan, planOf}
 use Rattle.planning.specs.Accepted.{plan-lines}
 use Rattle.planning.specs.declared.Planned.{Planned}
 use Rattle.planning.specs.declared.Answer.{Answer}
@@ -36,4 +36,4 @@ plan-says tasks queues period deadline receiver square =
     let t = tabled tasks queues period deadline receiver square in
     let lines = firstLines tasks queues period deadline receiver square ++ tableLines t in
     ap (λ (x : Planned). answerSays (x .answer)) (plan-lines tasks queues period deadline receiver square)
-    ∙ judged-map (λ (x : Planned). answerSays (x .answer)) lines refusedPlan (accepted t)
+    ∙ judged-map (λ (x : Planned). answerSays (x .answer)) lines refusedPlan (acceptedPlan t)

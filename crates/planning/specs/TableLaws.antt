@@ -15,17 +15,17 @@ use Rattle.plan.specs.Sound.{Checked, checked-of, checked-usable}
 use Rattle.plan.specs.declared.Plan.{Plan}
 use Rattle.sizing.specs.Bounds.{largestSize, slots-small}
 use Rattle.sizing.specs.Cycle.{cycleShort, messagesFew}
-use Rattle.tables.specs.Table.{kept, counted, flatEntry, flat, tabled}
+use Rattle.tables.specs.Table.{valueWithin, counted, flatEntry, flat, tabled}
 use Rattle.planning.specs.Planning.{longQueue, leastSize, leastSizes}
 
 pub counted-at : (limit n : ℕ) (values : List ℕ) (i : ℕ) → n ≤ limit → i < n → getD (counted limit n values) i 0 ≡ getD values i 0
-counted-at limit n values i f l = table-at (kept n values) limit i 0 (omega arith) ∙ rw (lt-ltb i n l)
+counted-at limit n values i f l = table-at (valueWithin n values) limit i 0 (omega arith) ∙ rw (lt-ltb i n l)
 
 -- "zeros in a plan we make"
 pub counted-beyond : (limit n : ℕ) (values : List ℕ) (i : ℕ) → n ≤ i → getD (counted limit n values) i 0 ≡ 0
 counted-beyond limit n values i h =
-    ⊎-elim (λ (l : i < limit). table-at (kept n values) limit i 0 l ∙ rw (le-ltb i n h))
-    (λ (l : limit ≤ i). List·getD-eq-default (counted limit n values) 0 (omega (arith, table-length (kept n values) limit)))
+    ⊎-elim (λ (l : i < limit). table-at (valueWithin n values) limit i 0 l ∙ rw (le-ltb i n h))
+    (λ (l : limit ≤ i). List·getD-eq-default (counted limit n values) 0 (omega (arith, table-length (valueWithin n values) limit)))
     (lt-or-le i limit)
 
 pub flat-at : (queues : ℕ) (square : List (List Bool)) (q i : ℕ) → queues ≤ queueLimit → q < queues → i < taskLimit →

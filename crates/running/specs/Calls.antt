@@ -75,13 +75,13 @@ found p m q n =
     (Received.Gap (message n) (senderOf (queueAt p q) lastTick n))
 
 -- what an accepted receive answers
-abbrev pub accepted : ℕ → Plan → List ℕ → ℕ → ℕ → Received
-accepted unread p m q t =
+abbrev pub acceptedReceive : ℕ → Plan → List ℕ → ℕ → ℕ → Received
+acceptedReceive unread p m q t =
     cond (ltb (last (queueAt p q) (receivingJob (queueAt p q) t)) (nextNumber unread p q t)) Received.Empty
     (found p m q (nextNumber unread p q t))
 
 unfoldable pub look : ℕ → ℕ → Plan → List ℕ → ℕ → ℕ → Received
-look before unread p m q t = judged (receiveLines before p m q t) Received.Refused (accepted unread p m q t)
+look before unread p m q t = judged (receiveLines before p m q t) Received.Refused (acceptedReceive unread p m q t)
 
 -- what an answer leaves of a state: "each message or gap moves on by one; past the last number it is empty, which changes only the state's
 -- tick"

@@ -1,6 +1,7 @@
 -- What an answer allows. Where a send stored its message, its job can be recorded in a state: queue and task have an entry, and the job can
 -- be counted on. Where a look names a number, that can be counted on too, and its queue is there to be stepped on.
-use Rattle.common.specs.Words.{ℕ, _*_, _/_, _<_, _≤_, div-le-self, arith, Bool, true, false, cond, List, _≡_, refl, sym, _∙_, getD, ltb, eqb, ltb-false}
+use Rattle.common.specs.Words.{ℕ, _*_, _/_, _<_, _≤_, div-le-self, arith, Bool, true, false, cond, List, _≡_, refl, sym, _∙_, getD, ltb}
+use Rattle.common.specs.Words.{eqb, ltb-false}
 use Rattle.model.specs.Model.{last, senderOf}
 use Rattle.calendar.specs.Calendar.{message, slot}
 use Rattle.plan.specs.Limits.{taskLimit, queueLimit, lastTick, payloadBytes}
@@ -10,7 +11,7 @@ use Rattle.plan.specs.Verdicts.{verdict, by-refusal, by-clear}
 use Rattle.slots.specs.Slots.{numberIn}
 use Rattle.judge.specs.Accepted.{send-taken, sender-fits, ReceiveTaken, receive-taken}
 use Rattle.running.specs.Types.{Number, Slot, Plan, Sent, Received, Verdict}
-use Rattle.running.specs.Calls.{sendAnswer, receiveLines, receivingJob, nextNumber, slotFor, found, accepted, look}
+use Rattle.running.specs.Calls.{sendAnswer, receiveLines, receivingJob, nextNumber, slotFor, found, acceptedReceive, look}
 use Rattle.running.specs.Bounds.{window-small}
 use Rattle.running.specs.Outcomes.{send-is-clear}
 
@@ -59,11 +60,13 @@ found-steps : (p : Plan) (m : List ℕ) (q n : ℕ) → q < queueLimit → n ≤
 unfolding found
 found-steps p m q n a b = go (eqb (numberIn payloadBytes m (slotFor p q n)) n)
   where
-    go : (t : Bool) → CanStep q (cond t (Received.Message (message n) (slot (slotFor p q n))) (Received.Gap (message n) (senderOf (queueAt p q) lastTick n)))
+    go : (t : Bool) → CanStep q (cond t (Received.Message (message n) (slot (slotFor p q n)))
+        (Received.Gap (message n) (senderOf (queueAt p q) lastTick n)))
     go true = (a, b)
     go false = (a, b)
 
-accepted-steps : (before unread : ℕ) (p : Plan) (m : List ℕ) (q t : ℕ) → ReceiveTaken before p m q t → CanStep q (accepted unread p m q t)
+accepted-steps : (before unread : ℕ) (p : Plan) (m : List ℕ) (q t : ℕ) → ReceiveTaken before p m q t →
+    CanStep q (acceptedReceive unread p m q t)
 accepted-steps before unread p m q t x = go (ltb (last (queueAt p q) (receivingJob (queueAt p q) t)) (nextNumber unread p q t)) refl
   where
     go : (b : Bool) → ltb (last (queueAt p q) (receivingJob (queueAt p q) t)) (nextNumber unread p q t) ≡ b →
@@ -79,7 +82,7 @@ unfolding look
 look-steps before unread p m q t = go (verdict (receiveLines before p m q t)) refl
   where
     go : (v : Verdict) → verdict (receiveLines before p m q t) ≡ v → CanStep q (look before unread p m q t)
-    go (Verdict.Refused r) e = rw (by-refusal (receiveLines before p m q t) Received.Refused (accepted unread p m q t) r e) tt
+    go (Verdict.Refused r) e = rw (by-refusal (receiveLines before p m q t) Received.Refused (acceptedReceive unread p m q t) r e) tt
     go Verdict.Clear e =
-        rw (by-clear (receiveLines before p m q t) Received.Refused (accepted unread p m q t) e)
+        rw (by-clear (receiveLines before p m q t) Received.Refused (acceptedReceive unread p m q t) e)
         (accepted-steps before unread p m q t (receive-taken before p m q t (sym e) refl))

@@ -21,12 +21,12 @@ viewOf Received.Empty m f = []
 viewOf (Received.Refused r) m f = []
 
 -- a place: the block of memory, and how far into it
-abbrev pub after : RefT (List ℕ) → ℕ → ℕ × ℕ
-after r k = (r .ptr .0, k + r .ptr .1)
+abbrev pub placeBehind : RefT (List ℕ) → ℕ → ℕ × ℕ
+placeBehind r k = (r .ptr .0, k + r .ptr .1)
 
 unfoldable pub placeOf : Received → RefT (List ℕ) → RefT (List ℕ) → ℕ × ℕ
 placeOf (Received.Message n s) m f =
-    cond (fillerFits (now f) && slotInside (now m) (s .0)) (after m (slotAt payloadBytes (s .0) + 8)) (f .ptr)
+    cond (fillerFits (now f) && slotInside (now m) (s .0)) (placeBehind m (slotAt payloadBytes (s .0) + 8)) (f .ptr)
 placeOf (Received.Gap n row) m f = f .ptr
 placeOf Received.Empty m f = f .ptr
 placeOf (Received.Refused r) m f = f .ptr

@@ -28,7 +28,8 @@ fn running_number<'a>(
 ) -> Number
     requires { ⌜ Lent (now sends) (now period) (now deadline) tasks queue × (task < tasks)
         × (runningDeadline (columnsAt (now sends) (now period) (now deadline) tasks queue) task (at .0) ≤ lastTick) ⌝ }
-    ensures { λ r. ⌜ r ≡ message (runningNumber (columnsAt (now (sends .entry)) (now (period .entry)) (now (deadline .entry)) tasks queue) task (at .0)) ⌝ }
+    ensures { λ r. ⌜ r ≡ message (runningNumber (columnsAt (now (sends .entry)) (now (period .entry)) (now (deadline .entry)) tasks queue) task
+        (at .0)) ⌝ }
 {
     let job = calendar::job_at(period[task], at);
     let due = calendar::deadline_of(period[task], deadline[task], job);

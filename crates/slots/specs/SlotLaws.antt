@@ -73,9 +73,9 @@ from-zeros l b e =
     rw (e0, e 1 (lit< tt), e 2 (lit< tt), e 3 (lit< tt), e 4 (lit< tt), e 5 (lit< tt), e 6 (lit< tt), e 7 (lit< tt))
 
 -- an index that the run does not meet
-kept :
+unchanged :
     (vs m : List ℕ) (at b k : ℕ) → k < 8 → (b + 8 ≤ at) ⊎ (at + length vs ≤ b) → getD (sets m at vs) (b + k) 0 ≡ getD m (b + k) 0
-kept vs m at b k h apart =
+unchanged vs m at b k h apart =
     ⊎-elim (λ (l : b + 8 ≤ at). sets-before vs m at (b + k) 0 (omega arith))
     (λ (l : at + length vs ≤ b). sets-after vs m at (b + k) 0 (omega arith)) apart
 
@@ -107,7 +107,7 @@ module _ (w : ℕ) (m p : List ℕ) (s n : ℕ) (whole : length p ≡ w) where
   number-other t ne =
       let a : (slotAt w t + 8 ≤ slotAt w s) ⊎ (slotAt w s + length (bytesOf n ++ p) ≤ slotAt w t) =
       ⊎-elim (λ l. inl (omega arith)) (λ l. inr (omega (arith, run))) (either-side w s t ne) in
-      from-same _ _ (slotAt w t) (λ k h. kept (bytesOf n ++ p) m (slotAt w s) (slotAt w t) k h a)
+      from-same _ _ (slotAt w t) (λ k h. unchanged (bytesOf n ++ p) m (slotAt w s) (slotAt w t) k h a)
 
   -- and so is its payload
   pub payload-other : (t : ℕ) → (t ≡ s → ⊥) → payloadIn w (stored w m s n p) t ≡ payloadIn w m t

@@ -7,11 +7,11 @@ use Rattle.plan.specs.Square.{entry}
 use Rattle.plan.specs.declared.Plan.{Plan}
 
 -- the first n of a column's values, and zeros beyond; the column has `limit` rows
-abbrev pub kept : ℕ → List ℕ → ℕ → ℕ
-kept n values i = only (ltb i n) (getD values i 0)
+abbrev pub valueWithin : ℕ → List ℕ → ℕ → ℕ
+valueWithin n values i = only (ltb i n) (getD values i 0)
 
 abbrev pub counted : ℕ → ℕ → List ℕ → List ℕ
-counted limit n values = table (kept n values) limit
+counted limit n values = table (valueWithin n values) limit
 
 -- the square kept flat: entry q * 16 + i says whether task i sends into queue q
 abbrev pub flatEntry : ℕ → List (List Bool) → ℕ → Bool

@@ -7,10 +7,10 @@ use Rattle.plan.specs.Plan.{queueAt, Usable}
 use Rattle.plan.specs.declared.Plan.{Plan}
 use Rattle.counting.specs.Columns.{planColumns, lent, upTo-columns}
 use Rattle.counting.specs.Bounds.{upTo-fits}
-use Rattle.window.specs.declared.Window.{Window}
+use Rattle.window.specs.declared.WindowEnds.{WindowEnds}
 
 -- of a receiver with period P at tick t
-abbrev pub windowAt : Queue → ℕ → ℕ → Window
+abbrev pub windowAt : Queue → ℕ → ℕ → WindowEnds
 windowAt q P t = record {
   low = tick (released P (t / P - 1));
   high = tick (released P (t / P));
@@ -30,7 +30,7 @@ high-within P t = div-mul-le-self t P
 -- ## Of a plan's queue
 
 module _ (p : Plan) (q t : ℕ) where
-  abbrev pub planWindow : Window
+  abbrev pub planWindow : WindowEnds
   planWindow = windowAt (planColumns p q) (receiverPeriod (queueAt p q)) t
 
   pub window-first : planWindow .before .0 + 1 ≡ first (queueAt p q) (t / receiverPeriod (queueAt p q))

@@ -13,7 +13,7 @@ ghost use Rattle.window.specs.Window.{windowAt};
 
 // The window of a receiver's job: the messages with deadlines after tick `low` and up to tick `high`, which have the numbers after
 // `before` and up to `end`.
-pub struct Window {
+pub struct WindowEnds {
     pub low: Tick,
     pub high: Tick,
     pub before: Number,
@@ -40,7 +40,7 @@ pub fn window_at<'a>(
     queue: usize,
     every: u64,
     at: Tick,
-) -> Window
+) -> WindowEnds
     requires { ⌜ Lent (now sends) (now period) (now deadline) tasks queue × (1 ≤ every) × (at .0 ≤ lastTick) ⌝ }
     ensures { λ r. ⌜ r ≡ windowAt (columnsAt (now (sends .entry)) (now (period .entry)) (now (deadline .entry)) tasks queue) every (at .0) ⌝ }
 {
@@ -50,7 +50,7 @@ pub fn window_at<'a>(
     let before = counting::count::up_to(sends, period, deadline, tasks, queue, low);
     let end = counting::count::up_to(sends, period, deadline, tasks, queue, high);
     // numbers count from 1, so the last number up to a tick is the count of messages up to it
-    Window {
+    WindowEnds {
         low,
         high,
         before: Number(before),

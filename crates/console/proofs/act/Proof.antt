@@ -12,12 +12,14 @@ table c =
     rw (failed (i .before .is-call .ensures) (i .if1 .taken)) (t .set-table .ensures)
 
 call-line-requires : tie.Need-call-line-requires
-call-line-requires c κs = let s = c .before .before .before .before .before .before .before .before .before .before .before .before .before in (λ runs. s .sound .ensures, s .before .before .before .before .before .before .before .before .pre)
+call-line-requires c κs = let s = c .before .before .before .before .before .before .before .before .before .before .before .before .before in
+    (λ runs. s .sound .ensures, s .before .before .before .before .before .before .before .before .pre)
 
 calls : tie.Need-returns-2
 calls c =
     let l = c .before .before .before .before .before .before in
-    let i = l .before .before .before .before .before .before .before .before .before .before .before .before .before .before .before .before .before in
+    let t = l .before .before .before .before .before .before .before .before .before in
+    let i = t .before .before .before .before .before .before .before .before in
     let a = i .before .before .before .before .before .args in
     rw (passed (i .before .is-call .ensures) (i .if1 .left), c .with-state .ensures)
     (turn-left (a .desk) (a .memory .now) (a .payload .now) (a .out .now) (a .frame) (l .call-line .ensures))

@@ -10,7 +10,7 @@ use Rattle.console.specs.Desk.{withState}
 use Rattle.console.specs.CallLines.{stateOf, call-taken, table-taken}
 use Rattle.lines.specs.Ends.{end-past}
 use Rattle.feed.specs.Feed.{enough}
-use Rattle.feed.specs.Outcome.{worldOf, fedFrom}
+use Rattle.feed.specs.Outcome.{consoleOf, fedFrom}
 use Rattle.feed.specs.Step.{part-rest, room-of}
 use Rattle.feed.specs.Turns.{Underway, Turned, underway-first, turn-short, turn-tail, turn-step}
 use Rattle.feed.proofs.feed.Statement.{statement}
@@ -18,12 +18,13 @@ use Rattle.feed.proofs.feed.Tie as tie
 
 abbrev Inv-loop : tie.InvT-loop
 Inv-loop memory₀ held₀ used piece from out₀ d₀ tick₀ sent₀ reading₀ u₀ at₀ w₀ memory held out d tick sent reading u at w =
-    Underway (fedFrom (worldOf d₀ memory₀) held₀ used piece from out₀) piece from held₀ out₀ memory held out
+    Underway (fedFrom (consoleOf d₀ memory₀) held₀ used piece from out₀) piece from held₀ out₀ memory held out
     (withState d (stateOf tick sent reading)) u at w
     × (length memory ≡ length memory₀)
 
 abbrev μ-loop : tie.MeasureT-loop
-μ-loop memory₀ held₀ used piece from out₀ d₀ tick₀ sent₀ reading₀ u₀ at₀ w₀ memory held out d tick sent reading u at w = length piece - at
+μ-loop memory₀ held₀ used piece from out₀ d₀ tick₀ sent₀ reading₀ u₀ at₀ w₀ memory held out d tick sent reading u at w =
+    length piece - at
 
 loop-holds : tie.Need-loop-holds Inv-loop μ-loop
 unfolding withState
@@ -99,7 +100,7 @@ module _ (k : tie.After-frame-of Inv-loop μ-loop) where
 
   again :
       (x : Arm) → let a = start ended .args in
-      Underway (fedFrom (worldOf (a .desk) (a .memory .now)) (a .held .now) (a .used) (a .piece .now) (a .from) (a .out .now)) (a .piece .now)
+      Underway (fedFrom (consoleOf (a .desk) (a .memory .now)) (a .held .now) (a .used) (a .piece .now) (a .from) (a .out .now)) (a .piece .now)
       (a .from) (a .held .now) (a .out .now) (x .memory′) (line .bytes-until .last .0)
       (putMid (turn .loop .w) (length (turn .loop .out) - turn .loop .w) (turn .loop .out) (x .after))
       (x .result .desk) 0 (ended .end-of .result + 1) (turn .loop .w + x .result .written)
@@ -199,12 +200,15 @@ feed-spec =
     (λ c. search needs) (λ c κs. search needs)
     (λ c. search needs) (λ c. search needs) (λ c. search needs) (λ c κs. search needs)
     (λ c κs. search needs) (λ c κs. search needs) (λ c. search needs)
-    (λ c. let h = c .before .before .before .held .given in let l = here (c .before .before .before .before .before .before .before .before) .loop .inv .0 .held-size in search needs)
+    (λ c. let h = c .before .before .before .held .given in
+    let l = here (c .before .before .before .before .before .before .before .before) .loop .inv .0 .held-size in search needs)
     (λ c. here (c .before .before .before .before .before .before .before .before) .loop .inv .0 .stored .size) returns
     (λ c. search needs) bytes-until-requires
     (λ c. search needs) (λ c. simp length-take (omega (arith, c .before .before .before .before .bytes-until .ensures .0))) (λ c κs. search needs)
     add-at (λ c κs. search needs)
-    (λ c. search needs) (λ c. simp length-take (omega (arith, line (c .before .before .before .before .before .before .before .before .before .before .before .before .before) .bytes-until .ensures .0)))
+    (λ c. search needs)
+    (λ c. let l = line (c .before .before .before .before .before .before .before .before .before .before .before .before .before) in
+    simp length-take (omega (arith, l .bytes-until .ensures .0)))
     (λ c κs. search needs)
     (λ c. search needs) (λ c. search needs) (λ c. search needs) call-line-requires
     add-w (λ c. less (call-frame c)) loop-again

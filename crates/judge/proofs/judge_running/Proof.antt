@@ -25,12 +25,14 @@ returns-4 c =
 
 returns-5 : tie.Need-returns-5
 returns-5 c =
-    let e = ap (λ (x : Tick). x .0) (c .before .before .before .before .before .before .before .before .before .before .before .before .end-of-job .ensures) in
+    let e = ap (λ (x : Tick). x .0)
+    (c .before .before .before .before .before .before .before .before .before .before .before .before .end-of-job .ensures) in
     search (tests, c .refused5 .ensures, ← e)
 
 returns-6 : tie.Need-returns-6
 returns-6 c =
-    let e = ap (λ (x : Tick). x .0) (c .before .before .before .before .before .before .before .before .before .before .before .end-of-job .ensures) in
+    let e = ap (λ (x : Tick). x .0)
+    (c .before .before .before .before .before .before .before .before .before .before .before .end-of-job .ensures) in
     search (tests, ← e)
 
 pub judge-running-spec : {M : Type 1} → statement M

@@ -1,12 +1,13 @@
 -- `mulchpenny::answer_block`: each call of `feed` goes on where the block was left (`comes-on`) and uses at least one byte
 -- (`next-moves`), so the loop ends, and it ends at the block's end unless a write failed.
 use Rattle.common.specs.Words.{needs, arith, true≢false, _≡_, refl, sym, _∙_, _-_, _<_, _≤_, length, take}
-use Rattle.console.specs.Kept.{Kept}
+use Rattle.console.specs.Desk.{Kept}
 use Rattle.feed.specs.Feed.{enough}
-use Rattle.feed.specs.Outcome.{worldOf}
+use Rattle.feed.specs.Answers.{consoleOf}
 use Rattle.feed.specs.Session.{next-moves}
 use Rattle.lines.specs.Lines.{kept}
-use Rattle.mulchpenny.specs.Block.{Comes, comes-none, comes-on}
+use Rattle.mulchpenny.specs.Block.{Comes}
+use Rattle.mulchpenny.specs.Laws.{comes-none, comes-on}
 use Rattle.mulchpenny.proofs.answer_block.Statement.{statement}
 use Rattle.mulchpenny.proofs.answer_block.Tie as tie
 
@@ -14,7 +15,7 @@ abbrev Inv-loop : tie.InvT-loop
 Inv-loop memory₀ held₀ used piece out₀ d₀ u₀ at₀ s₀ memory held out d u at s =
     (u ≤ kept) × (at ≤ length piece) × (length held ≡ length held₀) × (length out ≡ length out₀)
     × (length memory ≡ length memory₀) × Kept d × (s .left ≡ s₀ .left)
-    × Comes (worldOf d₀ memory₀) (take used held₀) (take at piece) (worldOf d memory) (take u held)
+    × Comes (consoleOf d₀ memory₀) (take used held₀) (take at piece) (consoleOf d memory) (take u held)
 
 abbrev μ-loop : tie.MeasureT-loop
 μ-loop memory₀ held₀ used piece out₀ d₀ u₀ at₀ s₀ memory held out d u at s = length piece - at
@@ -23,7 +24,7 @@ loop-holds : tie.Need-loop-holds Inv-loop μ-loop
 loop-holds c =
     let k = c .before .before .before .before in
     let a = k .args in
-    let n = comes-none (worldOf (a .desk) (a .memory .now)) (take (a .used) (a .held .now)) (a .piece .now) in
+    let n = comes-none (consoleOf (a .desk) (a .memory .now)) (take (a .used) (a .held .now)) (a .piece .now) in
     (k .pre .0, omega arith, refl, refl, refl, k .pre .3, refl, n)
 
 -- ## A call of feed
@@ -39,16 +40,16 @@ module _ (f : tie.After-feed Inv-loop μ-loop) where
   moves =
       let l = turn .before .loop in
       let room : enough ≤ length (l .out) = omega (arith, l .inv .3, start .pre .2) in
-      next-moves (worldOf (l .d) (l .memory)) (l .held) (l .u) (start .args .piece .now) (l .at) (l .out) (l .held) (l .out) (f .feed .result)
+      next-moves (consoleOf (l .d) (l .memory)) (l .held) (l .u) (start .args .piece .now) (l .at) (l .out) (l .held) (l .out) (f .feed .result)
       _ _ _ (f .feed .ensures .0) room (turn .loop-test .taken)
 
   comes :
-      Comes (worldOf (start .args .desk) (start .args .memory .now)) (take (start .args .used) (start .args .held .now))
-      (take (f .feed .result .next) (start .args .piece .now)) (worldOf (f .feed .result .desk) (f .feed .last .1 .0))
+      Comes (consoleOf (start .args .desk) (start .args .memory .now)) (take (start .args .used) (start .args .held .now))
+      (take (f .feed .result .next) (start .args .piece .now)) (consoleOf (f .feed .result .desk) (f .feed .last .1 .0))
       (take (f .feed .result .used) (f .feed .last .1 .1 .0))
   comes =
       let l = turn .before .loop in
-      comes-on (worldOf (l .d) (l .memory)) (l .held) (l .u) (start .args .piece .now) (l .at) (l .out) (l .inv .1) (l .inv .7)
+      comes-on (consoleOf (l .d) (l .memory)) (l .held) (l .u) (start .args .piece .now) (l .at) (l .out) (l .inv .1) (l .inv .7)
       (f .feed .ensures .0)
 
 -- the call's answers were written, or could not be

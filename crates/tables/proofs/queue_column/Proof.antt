@@ -1,12 +1,12 @@
 -- `tables::queue_column` fills its array from the front.
 use Rattle.common.specs.Words.{_-_, _≤_, _≡_, needs, length, take}
 use Rattle.common.specs.Table.{table, table-none, table-more, table-all}
-use Rattle.tables.specs.Table.{kept}
+use Rattle.tables.specs.Table.{valueWithin}
 use Rattle.tables.proofs.queue_column.Statement.{statement}
 use Rattle.tables.proofs.queue_column.Tie as tie
 
 abbrev Inv-loop : tie.InvT-loop
-Inv-loop queues values out₀ q₀ out q = (q ≤ 8) × (length out ≡ 8) × (take q out ≡ table (kept queues values) q)
+Inv-loop queues values out₀ q₀ out q = (q ≤ 8) × (length out ≡ 8) × (take q out ≡ table (valueWithin queues values) q)
 
 abbrev μ-loop : tie.MeasureT-loop
 μ-loop queues values out₀ q₀ out q = 8 - q

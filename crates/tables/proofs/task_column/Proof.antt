@@ -1,12 +1,12 @@
 -- `tables::task_column` fills its array from the front.
 use Rattle.common.specs.Words.{_-_, _≤_, _≡_, needs, length, take}
 use Rattle.common.specs.Table.{table, table-none, table-more, table-all}
-use Rattle.tables.specs.Table.{kept}
+use Rattle.tables.specs.Table.{valueWithin}
 use Rattle.tables.proofs.task_column.Statement.{statement}
 use Rattle.tables.proofs.task_column.Tie as tie
 
 abbrev Inv-loop : tie.InvT-loop
-Inv-loop tasks values out₀ i₀ out i = (i ≤ 16) × (length out ≡ 16) × (take i out ≡ table (kept tasks values) i)
+Inv-loop tasks values out₀ i₀ out i = (i ≤ 16) × (length out ≡ 16) × (take i out ≡ table (valueWithin tasks values) i)
 
 abbrev μ-loop : tie.MeasureT-loop
 μ-loop tasks values out₀ i₀ out i = 16 - i

@@ -10,7 +10,7 @@ use Rattle.calendar.specs.declared.Number.{Number}
 use Rattle.calendar.specs.declared.Slot.{Slot}
 use Rattle.plan.specs.Limits.{payloadBytes, slotBytes}
 use Rattle.slots.specs.Slots.{slotAt, payloadIn}
-use Rattle.running.specs.View.{viewOf, placeOf, after, slotInside, fillerFits}
+use Rattle.running.specs.View.{viewOf, placeOf, placeBehind, slotInside, fillerFits}
 use Rattle.running.specs.declared.Received.{Received}
 use Rattle.running.proofs.Received.{the-type}
 use Rattle.view.proofs.view.Statement.{statement}
@@ -41,12 +41,12 @@ module _ (a : Received) (n : Number) (s : Slot) (m f : RefT (List ℕ)) (is : a 
   outside h = rw is (go (fillerFits (now f)))
     where
       go : (b : Bool) → ([] ≡ cond (b && slotInside (now m) (s .0)) (payloadIn payloadBytes (now m) (s .0)) [])
-          × (f .ptr ≡ cond (b && slotInside (now m) (s .0)) (after m (slotAt payloadBytes (s .0) + 8)) (f .ptr))
+          × (f .ptr ≡ cond (b && slotInside (now m) (s .0)) (placeBehind m (slotAt payloadBytes (s .0) + 8)) (f .ptr))
       go true = let e = lt-leb _ _ h in (rw e, rw e)
       go false = (refl, refl)
 
   inside : length (now f) ≡ payloadBytes → slotAt payloadBytes (s .0) + slotBytes ≤ length (now m) →
-      (payloadIn payloadBytes (now m) (s .0) ≡ viewOf a (now m) (now f)) × (after m (slotAt payloadBytes (s .0) + 8) ≡ placeOf a m f)
+      (payloadIn payloadBytes (now m) (s .0) ≡ viewOf a (now m) (now f)) × (placeBehind m (slotAt payloadBytes (s .0) + 8) ≡ placeOf a m f)
   unfolding viewOf placeOf
   inside d e = rw (is, eq-eqb _ _ d, le-leb _ _ e) (refl, refl)
 

@@ -2,7 +2,7 @@
 use borrow.Author.Needs.{needs}
 use native.Mathlib.Omega.{arith}
 use mathlib.Core.Path.{refl}
-use Rattle.blocks.specs.Stream.{closed-came}
+use Rattle.blocks.specs.Laws.{closed-came}
 use Rattle.blocks.proofs.Stream.read_block.Statement.{statement}
 use Rattle.blocks.proofs.Stream.read_block.Tie as tie
 

@@ -2,7 +2,7 @@
 use borrow.Author.Needs.{needs}
 use native.Mathlib.Omega.{arith}
 use lib.ListN.{length-take}
-use Rattle.blocks.specs.Stream.{closed-gone}
+use Rattle.blocks.specs.Laws.{closed-gone}
 use Rattle.blocks.proofs.Stream.write_answers.Statement.{statement}
 use Rattle.blocks.proofs.Stream.write_answers.Tie as tie
 

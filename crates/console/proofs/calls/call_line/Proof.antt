@@ -31,7 +31,8 @@ sends c =
     let l = c .before .before .before .before in
     let f = l .before .before .before .before .before in
     let i = f .before .before in
-    rw (not-false (i .before .before .before .before .args .runs) (i .if1 .left), f .frame .given .1) (l .send-line .ensures (i .before .before .before .before .args .reading .now))
+    rw (not-false (i .before .before .before .before .args .runs) (i .if1 .left), f .frame .given .1)
+    (l .send-line .ensures (i .before .before .before .before .args .reading .now))
 
 receive-line-requires : tie.Need-receive-line-requires
 receive-line-requires c κs =
@@ -44,7 +45,8 @@ receives c =
     let l = c .before .before in
     let f = l .before .before .before .before .before in
     let i = f .before .before .before in
-    rw (not-false (i .before .before .before .before .args .runs) (i .if1 .left), f .frame2 .given .1) (l .receive-line .ensures (i .before .before .before .before .args .sent .now))
+    rw (not-false (i .before .before .before .before .args .runs) (i .if1 .left), f .frame2 .given .1)
+    (l .receive-line .ensures (i .before .before .before .before .args .sent .now))
 
 neither : tie.Need-returns-4
 neither c =

@@ -24,4 +24,5 @@ returns c =
 pub send-line-spec : {M : Type 1} → statement M
 send-line-spec =
     tie.close
-    (tie.spec (λ c κs. c .before .before .before .before .before .pre .0) (λ c κs. search needs) (λ c. search needs) (λ c. search needs) returns)
+    (tie.spec (λ c κs. c .before .before .before .before .before .pre .0) (λ c κs. search needs) (λ c. search needs)
+    (λ c. search needs) returns)

@@ -11,14 +11,17 @@ returns : tie.Need-returns
 returns c =
     let w = c .before .before in
     let t = w .before .before in
-    λ m. rw (row-refused (t .before .before .before .args .t1) m _ _ (failed (t .before .takes-row .ensures) (t .if1 .taken))) (w .refuse-line .ensures m)
+    λ m. rw (row-refused (t .before .before .before .args .t1) m _ _ (failed (t .before .takes-row .ensures) (t .if1 .taken)))
+    (w .refuse-line .ensures m)
 
 room : (c : tie.Else1) → c .before .before .before .args .t1 .tasks < taskLimit
-room c = let d = c .before .before .before .args .t1 in room-for (d .running) (d .tasks) taskLimit (passed (c .before .takes-row .ensures) (c .if1 .left))
+room c = let d = c .before .before .before .args .t1 in
+    room-for (d .running) (d .tasks) taskLimit (passed (c .before .takes-row .ensures) (c .if1 .left))
 
 returns-2 : tie.Need-returns-2
 unfolding withTask
-returns-2 c = λ m. rw (row-added (c .before .before .before .args .t1) m _ _ (passed (c .before .takes-row .ensures) (c .if1 .left))) (refl, refl, refl)
+returns-2 c = λ m. rw (row-added (c .before .before .before .args .t1) m _ _ (passed (c .before .takes-row .ensures) (c .if1 .left)))
+    (refl, refl, refl)
 
 pub add-task-spec : {M : Type 1} → statement M
 add-task-spec =

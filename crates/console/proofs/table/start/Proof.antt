@@ -19,8 +19,11 @@ write-sizes-requires : tie.Need-write-sizes-requires
 write-sizes-requires c κs =
     let g = c .before .before in
     let s = g .before .before .before .before .before in
-    let a = s .before .before .before .before .args in
-    (search needs, started-queues (a .plan) (a .memory .now) (ap (λ (y : Starting). y .answer) (sym (s .start .ensures .0)) ∙ g .enum-told .given .1))
+    let a = s .before .before .before .before .args in (
+      search needs,
+      started-queues (a .plan) (a .memory .now)
+          (ap (λ (y : Starting). y .answer) (sym (s .start .ensures .0)) ∙ g .enum-told .given .1),
+    )
 
 returns-2 : tie.Need-returns-2
 returns-2 c =

@@ -19,7 +19,8 @@ returns c =
     let a = r .before .before .before .args in
     three (inBytes 1 0x7f) (inBytes 1 (numberOf (a .refusal .rule))) (inBytes 1 (a .refusal .row)) _ _ _ _ _ 2 4 6 _
     (r .put-number .ensures) (rw (n .rule-number .ensures) at (q .put-number2 .ensures)) (p .put-number3 .ensures) (e .end-line .ensures)
-    (omega (arith, bytes-length 1 0x7f)) (omega (arith, bytes-length 1 (numberOf (a .refusal .rule)))) (omega (arith, bytes-length 1 (a .refusal .row)))
+    (omega (arith, bytes-length 1 0x7f)) (omega (arith, bytes-length 1 (numberOf (a .refusal .rule))))
+    (omega (arith, bytes-length 1 (a .refusal .row)))
 
 pub write-refusal-spec : {M : Type 1} → statement M
 write-refusal-spec =

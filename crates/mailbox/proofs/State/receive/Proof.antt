@@ -2,8 +2,7 @@
 use Rattle.common.specs.Words.{List, _≡_, refl, ℕ, needs}
 use Rattle.running.specs.Calls as running
 use Rattle.mailbox.specs.Types.{Plan, State, ReceivedAt}
-use Rattle.mailbox.specs.Calls.{receiveState}
-use Rattle.mailbox.specs.Outcomes.{ReceiveGives}
+use Rattle.mailbox.specs.Calls.{receiveState, ReceiveGives}
 use Rattle.mailbox.proofs.State.receive.Statement.{statement}
 use Rattle.mailbox.proofs.State.receive.Tie as tie
 

@@ -2,8 +2,7 @@
 use Rattle.common.specs.Words.{List, _≡_, refl, ℕ, needs}
 use Rattle.running.specs.Calls as running
 use Rattle.mailbox.specs.Types.{Plan, State, SentAt}
-use Rattle.mailbox.specs.Calls.{sendState}
-use Rattle.mailbox.specs.Outcomes.{SendGives}
+use Rattle.mailbox.specs.Calls.{sendState, SendGives}
 use Rattle.mailbox.proofs.State.send.Statement.{statement}
 use Rattle.mailbox.proofs.State.send.Tie as tie
 

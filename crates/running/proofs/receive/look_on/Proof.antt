@@ -11,15 +11,16 @@ use Rattle.counting.specs.Columns.{planColumns, lent, senderOf-columns}
 use Rattle.slots.specs.Slots.{numberIn}
 use Rattle.judge.specs.Accepted.{ReceiveTaken, receiver-fits, receive-taken}
 use Rattle.window.specs.Window.{planWindow, high-within, window-first, window-last, before-fits}
-use Rattle.running.specs.Types.{Number, Slot, Plan, Verdict, Received, Window}
-use Rattle.running.specs.Calls.{receiveLines, slotFor, found, accepted, look}
+use Rattle.running.specs.Types.{Number, Slot, Plan, Verdict, Received, WindowEnds}
+use Rattle.running.specs.Calls.{receiveLines, slotFor, found, acceptedReceive, look}
 use Rattle.running.specs.Bounds.{slots-small, slot-inside}
 use Rattle.running.proofs.receive.look_on.Statement.{statement}
 use Rattle.running.proofs.receive.look_on.Tie as tie
 
 module _ (p : Plan) (m : List ℕ) (q : ℕ) where
   -- what the slot of number n says
-  module _ (n : Number) {held : Number} {at : Slot} (a : at ≡ slot (slotFor p q (n .0))) (b : held ≡ message (numberIn payloadBytes m (at .0))) where
+  module _ (n : Number) {held : Number} {at : Slot} (a : at ≡ slot (slotFor p q (n .0)))
+      (b : held ≡ message (numberIn payloadBytes m (at .0))) where
     holds : held .0 ≡ numberIn payloadBytes m (slotFor p q (n .0))
     holds = rw (b, a)
 
@@ -27,7 +28,8 @@ module _ (p : Plan) (m : List ℕ) (q : ℕ) where
     unfolding found
     is-message e = rw (eq-eqb _ _ (sym holds ∙ e), a)
 
-    is-gap : (held .0 ≡ n .0 → ⊥) → {row : ℕ} → row ≡ senderOf (planColumns p q) lastTick (n .0) → Received.Gap n row ≡ found p m q (n .0)
+    is-gap : (held .0 ≡ n .0 → ⊥) → {row : ℕ} → row ≡ senderOf (planColumns p q) lastTick (n .0) →
+        Received.Gap n row ≡ found p m q (n .0)
     unfolding found
     is-gap d e =
         rw (ne-eqb (numberIn payloadBytes m (slotFor p q (n .0))) (n .0) (λ f. d (holds ∙ f)), e, senderOf-columns p q lastTick (n .0))
@@ -35,14 +37,14 @@ module _ (p : Plan) (m : List ℕ) (q : ℕ) where
   module _ (t : ℕ) where
     -- the verdict decides
     decides : (before unread : ℕ) {v : Verdict} → v ≡ verdict (receiveLines before p m q t) → (told : Verdict) → v ≡ told →
-        outcome told Received.Refused (accepted unread p m q t) ≡ look before unread p m q t
+        outcome told Received.Refused (acceptedReceive unread p m q t) ≡ look before unread p m q t
     unfolding look
     decides before unread e told g =
-        rw (← g, e) (sym (by-verdict (receiveLines before p m q t) Received.Refused (accepted unread p m q t)))
+        rw (← g, e) (sym (by-verdict (receiveLines before p m q t) Received.Refused (acceptedReceive unread p m q t)))
 
     -- and then the window w and the next number n
-    module _ {w : Window} {n : Number} (unread : ℕ) (a : w ≡ planWindow p q t) (b : n ≡ message (max unread (w .before .0 + 1))) where
-      chosen : accepted unread p m q t ≡ cond (ltb (w .end .0) (n .0)) Received.Empty (found p m q (n .0))
+    module _ {w : WindowEnds} {n : Number} (unread : ℕ) (a : w ≡ planWindow p q t) (b : n ≡ message (max unread (w .before .0 + 1))) where
+      chosen : acceptedReceive unread p m q t ≡ cond (ltb (w .end .0) (n .0)) Received.Empty (found p m q (n .0))
       chosen = rw (b, a, window-first p q t, window-last p q t)
 
       in-window : n .0 ≤ w .end .0 → (upTo (planColumns p q) (w .low .0) < n .0) × (n .0 ≤ upTo (planColumns p q) (w .high .0))
@@ -86,7 +88,8 @@ module _ (n : tie.After-next-number) where
       let p = planOf (start clear) in
       let a = start clear .args in
       e ∙ sym (chosen p _ _ _ _ (n .before .before .window-at .ensures) (n .next-number .ensures))
-      ∙ decides p (a .memory .now) (a .queue) (a .at .0) (a .before .0) (getD (a .reading .now) (a .queue) 0) (clear .before .before .judge-receive .ensures) Verdict.Clear
+      ∙ decides p (a .memory .now) (a .queue) (a .at .0) (a .before .0) (getD (a .reading .now) (a .queue) 0)
+      (clear .before .before .judge-receive .ensures) Verdict.Clear
       (clear .enum-told .given .1)
 
 -- after it is found within the window
@@ -97,7 +100,8 @@ returns : tie.Need-returns
 returns c =
     let k = c .before .before .before in
     let a = k .before .before .args in
-    decides (planOf (k .before .before)) (a .memory .now) (a .queue) (a .at .0) (a .before .0) (getD (a .reading .now) (a .queue) 0) (k .judge-receive .ensures)
+    decides (planOf (k .before .before)) (a .memory .now) (a .queue) (a .at .0) (a .before .0) (getD (a .reading .now) (a .queue) 0)
+    (k .judge-receive .ensures)
     (Verdict.Refused _) (c .before .verdict .given .1)
 
 window-at-requires : tie.Need-window-at-requires

@@ -8,7 +8,8 @@ use Rattle.running.specs.Stepping.{send-records}
 use Rattle.running.proofs.send.send_on.Statement.{statement}
 use Rattle.running.proofs.send.send_on.Tie as tie
 
-made : (before : ℕ) (sent : List ℕ) (p : Plan) (m : List ℕ) (q i t : ℕ) (payload : List ℕ) {a : Sent} {after : Tick} {sent′ memory : List ℕ} →
+made : (before : ℕ) (sent : List ℕ) (p : Plan) (m : List ℕ) (q i t : ℕ) (payload : List ℕ) {a : Sent} {after : Tick}
+    {sent′ memory : List ℕ} →
     (a ≡ sendAnswer before (unsentAt sent q i) p m q i t payload) × (memory ≡ sendMemory before (unsentAt sent q i) p m q i t payload) →
     (after ≡ tick (sentTick a before t)) × (sent′ ≡ sentJobs a sent (p .period) q i t) →
     SendLeaves before sent p m q i t payload (record { answer = a; tick = after }) sent′ memory

@@ -102,7 +102,11 @@ loop-again c =
     let a = start l .args in
     let e : n .need-of .result ≡ needFor (columns l) (a .chart) (a .wanted) (task l) (job l) = rw (known o .0) (n .need-of .ensures) in (
       omega arith,
-      rw (most-next (λ k. needFor (columns l) (a .chart) (a .wanted) (task l) (a .ticks / columns l .period (task l) + k)) (l .before .loop .k), ← l .before .loop .inv .1, ← e) (c .larger .ensures),
+      rw (
+        most-next (λ k. needFor (columns l) (a .chart) (a .wanted) (task l) (a .ticks / columns l .period (task l) + k)) (l .before .loop .k),
+        ← l .before .loop .inv .1,
+        ← e,
+      ) (c .larger .ensures),
       λ r f g. known o .1 r (omega (arith, f)) g,
     )
 
