@@ -2,3 +2,4 @@
 pub mod Columns
 pub mod Bounds
 pub mod Until
+pub mod Passed

@@ -3,3 +3,4 @@ pub mod Cycle
 pub mod Bounds
 pub mod Needs
 pub mod Outdated
+pub mod Deciding

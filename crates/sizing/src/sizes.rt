@@ -4,7 +4,7 @@
 use calendar::Job;
 use calendar::Tick;
 use plan::Plan;
-ghost use Rattle.common.specs.Words.{_≡_, _-_, _<_, _≤_, max, getD};
+ghost use Rattle.common.specs.Words.{_≡_, _+_, _-_, _^_, _<_, _≤_, _||_, eqb, leb, max, getD};
 ghost use Rattle.common.specs.Totals.{only};
 ghost use Rattle.model.specs.Model.{Sender, deadlineOf, slotsOver};
 ghost use Rattle.calendar.specs.Calendar.{tick};
@@ -59,7 +59,20 @@ fn outdated_at<'a>(
     }
 }
 
-// The slots that a job's message asks for, where so many messages are outdated at the job's release.
+// Whether a task's job decides, with so many jobs left: it is the last one, or the horizon moves before the next one is released. Else as
+// many messages are outdated at both releases, and the next one's message, which has a greater number, asks for more.
+fn decides(left: u64, period: u64, release: Tick, until: Tick) -> bool
+    requires { ⌜ release .0 + period < 2 ^ 64 ⌝ }
+    ensures { λ r. ⌜ r ≡ (eqb left 1 || leb (until .0) (release .0 + period)) ⌝ }
+{
+    if left == 1 {
+        true
+    } else {
+        until.0 <= release.0 + period
+    }
+}
+
+// The slots that the message of a job asks for, where the job decides and so many messages are outdated at its release.
 fn need_of<'a>(
     sends: &'a [bool; Plan::CELLS],
     period: &'a [u64; Plan::TASKS],
@@ -69,14 +82,18 @@ fn need_of<'a>(
     task: usize,
     job: Job,
     outdated: u64,
+    on: bool,
 ) -> u64
     requires { ⌜ Lent (now sends) (now period) (now deadline) tasks queue
         × Sender (columnsAt (now sends) (now period) (now deadline) tasks queue) task
         × (deadlineOf (columnsAt (now sends) (now period) (now deadline) tasks queue) task (job .0) ≤ lastTick)
         × (outdated ≤ numberFor (columnsAt (now sends) (now period) (now deadline) tasks queue) task (job .0)) ⌝ }
-    ensures { λ r. ⌜ r
-        ≡ numberFor (columnsAt (now (sends .entry)) (now (period .entry)) (now (deadline .entry)) tasks queue) task (job .0) - outdated ⌝ }
+    ensures { λ r. ⌜ r ≡ only on
+        (numberFor (columnsAt (now (sends .entry)) (now (period .entry)) (now (deadline .entry)) tasks queue) task (job .0) - outdated) ⌝ }
 {
+    if !on {
+        return 0;
+    }
     let due = calendar::deadline_of(period[task], deadline[task], job);
     let number = counting::number::number_due(sends, period, deadline, tasks, queue, due, task);
     number.0 - outdated
@@ -100,12 +117,10 @@ fn row_slots<'a>(
     task: usize,
     ticks: u64,
 ) -> u64
-    requires { ⌜ Lent (now sends) (now period) (now deadline) tasks queue × (1 ≤ chart) × (chart ≤ longestPeriod)
-        × (wanted ≤ longestPeriod)
+    requires { ⌜ Lent (now sends) (now period) (now deadline) tasks queue × (1 ≤ chart) × (chart ≤ longestPeriod) × (wanted ≤ longestPeriod)
         × Sender (columnsAt (now sends) (now period) (now deadline) tasks queue) task
         × (getD (now period) task 0 ≤ longestPeriod) × (ticks ≤ longestHyperperiod) ⌝ }
-    ensures { λ r. ⌜ r
-        ≡ rowSlotsFor (columnsAt (now (sends .entry)) (now (period .entry)) (now (deadline .entry)) tasks queue) chart wanted ticks task ⌝ }
+    ensures { λ r. ⌜ r ≡ rowSlotsFor (columnsAt (now (sends .entry)) (now (period .entry)) (now (deadline .entry)) tasks queue) chart wanted ticks task ⌝ }
 {
     let jobs = ticks / period[task];
     let mut most: u64 = 0;
@@ -127,6 +142,7 @@ fn row_slots<'a>(
             release,
             outdated,
         );
+        let on = decides(jobs - k, period[task], release, outdated.until);
         let need = need_of(
             sends,
             period,
@@ -136,6 +152,7 @@ fn row_slots<'a>(
             task,
             job,
             outdated.count,
+            on,
         );
         most = larger(most, need);
     }
@@ -154,8 +171,7 @@ fn share<'a>(
     task: usize,
     ticks: u64,
 ) -> u64
-    requires { ⌜ Lent (now sends) (now period) (now deadline) tasks queue × (1 ≤ chart) × (chart ≤ longestPeriod)
-        × (wanted ≤ longestPeriod) × (task < tasks)
+    requires { ⌜ Lent (now sends) (now period) (now deadline) tasks queue × (1 ≤ chart) × (chart ≤ longestPeriod) × (wanted ≤ longestPeriod) × (task < tasks)
         × (getD (now period) task 0 ≤ longestPeriod) × (ticks ≤ longestHyperperiod) ⌝ }
     ensures { λ r. ⌜ r ≡ only ((columnsAt (now (sends .entry)) (now (period .entry)) (now (deadline .entry)) tasks queue) .sends task)
         (rowSlotsFor (columnsAt (now (sends .entry)) (now (period .entry)) (now (deadline .entry)) tasks queue) chart wanted ticks task) ⌝ }

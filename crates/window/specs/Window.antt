@@ -27,6 +27,9 @@ low-within P t =
 pub high-within : (P t : ℕ) → released P (t / P) ≤ t
 high-within P t = div-mul-le-self t P
 
+pub low-before-high : (P t : ℕ) → released P (t / P - 1) ≤ released P (t / P)
+low-before-high P t = mul-le-mul-right P (omega arith)
+
 -- ## Of a plan's queue
 
 module _ (p : Plan) (q t : ℕ) where

@@ -47,14 +47,13 @@ pub fn window_at<'a>(
     let job = calendar::job_at(every, at);
     let low = release_before(every, job);
     let high = calendar::release_of(every, job);
-    let before = counting::count::up_to(sends, period, deadline, tasks, queue, low);
-    let end = counting::count::up_to(sends, period, deadline, tasks, queue, high);
+    let counts = counting::count::up_to_both(sends, period, deadline, tasks, queue, low, high);
     // numbers count from 1, so the last number up to a tick is the count of messages up to it
     WindowEnds {
         low,
         high,
-        before: Number(before),
-        end: Number(end),
+        before: Number(counts.low),
+        end: Number(counts.high),
     }
 }
 

@@ -1,6 +1,6 @@
 -- `window_at`: the window's ticks are not after the receive's, so all counts fit.
 use Rattle.common.specs.Words.{arith, needs}
-use Rattle.window.specs.Window.{low-within, high-within}
+use Rattle.window.specs.Window.{high-within, low-before-high}
 use Rattle.window.proofs.window_at.Statement.{statement}
 use Rattle.window.proofs.window_at.Tie as tie
 
@@ -15,27 +15,21 @@ release-of-requires c κs =
     let k = j .before in
     rw (j .job-at .ensures) (omega (arith, k .pre .2, high-within (k .args .every) (k .args .at .0)))
 
-up-to-requires : tie.Need-up-to-requires
-up-to-requires c κs =
+up-to-both-requires : tie.Need-up-to-both-requires
+up-to-both-requires c κs =
     let b = c .before in
     let j = b .before in
     let k = j .before in
-    rw (b .release-before .ensures, j .job-at .ensures) (k .pre .0, omega (arith, k .pre .2, low-within (k .args .every) (k .args .at .0)))
-
-up-to-requires-2 : tie.Need-up-to-requires-2
-up-to-requires-2 c κs =
-    let r = c .before in
-    let j = r .before .before in
-    let k = j .before in
-    rw (r .release-of .ensures, j .job-at .ensures) (k .pre .0, omega (arith, k .pre .2, high-within (k .args .every) (k .args .at .0)))
+    let P = k .args .every in
+    let t = k .args .at .0 in
+    rw (c .release-of .ensures, b .release-before .ensures, j .job-at .ensures)
+    (k .pre .0, low-before-high P t, omega (arith, k .pre .2, high-within P t))
 
 returns : tie.Need-returns
 returns c =
-    let u = c .before in
-    let r = u .before in
+    let r = c .before in
     let b = r .before in
-    let j = b .before in
-    rw (c .up-to2 .ensures, u .up-to .ensures, r .release-of .ensures, b .release-before .ensures, j .job-at .ensures)
+    rw (c .up-to-both .ensures .0, c .up-to-both .ensures .1, r .release-of .ensures, b .release-before .ensures, b .before .job-at .ensures)
 
 pub window-at-spec : {M : Type 1} → statement M
 window-at-spec =
@@ -44,6 +38,5 @@ window-at-spec =
     (λ c κs. search needs)
     release-before-requires
     release-of-requires
-    up-to-requires
-    up-to-requires-2
+    up-to-both-requires
     returns)

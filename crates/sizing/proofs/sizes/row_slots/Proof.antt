@@ -1,20 +1,22 @@
--- `sizing::sizes::row_slots`: the loop keeps the greatest need of the jobs passed, and what is outdated from the next job's release on. The
--- second hyperperiod ends before the last tick.
-use Rattle.common.specs.Words.{ℕ, _+_, _-_, _/_, _<_, _≤_, le-refl, div-le-self, div-mul-le-self, mul-le-mul-right, arith, _≡_, refl, needs}
-use Rattle.common.specs.Totals.{most, most-next}
+-- `sizing::sizes::row_slots`: the loop keeps the greatest need of the jobs passed, but for one that the next job's need makes up for, and
+-- what is outdated from the next job's release on. The second hyperperiod ends before the last tick.
+use Rattle.common.specs.Words.{ℕ, _+_, _-_, _/_, _<_, _≤_, le-refl, div-le-self, div-mul-le-self, mul-le-mul-right, arith, needs}
+use Rattle.common.specs.Words.{_*_, max, false, _≡_, ap, sym, subst, _∙_}
+use Rattle.common.specs.Totals.{only}
 use Rattle.model.specs.Model.{Queue, Valid, Sender, releaseOf, deadlineOf, upTo}
 use Rattle.plan.specs.Limits.{lastTick, longestPeriod, longestHyperperiod}
 use Rattle.counting.specs.Columns.{columnsAt}
 use Rattle.counting.specs.Bounds.{row-positive}
 use Rattle.sizing.specs.Needs.{horizonFor, needFor, OutdatedFrom, outdated-less}
 use Rattle.sizing.specs.Outdated.{outdated-next}
+use Rattle.sizing.specs.Deciding.{MostSoFar, most-none, most-more, need-rises, undecided}
 use Rattle.sizing.proofs.sizes.row_slots.Statement.{statement}
 use Rattle.sizing.proofs.sizes.row_slots.Tie as tie
 
 abbrev Inv-loop : tie.InvT-loop
 Inv-loop sends period deadline tasks queue chart wanted task ticks jobs most₀ outdated₀ k₀ most outdated k =
     let q = columnsAt sends period deadline tasks queue in
-    (k ≤ jobs) × (most ≡ Rattle.common.specs.Totals.most (λ k. needFor q chart wanted task (jobs + k)) k)
+    (k ≤ jobs) × MostSoFar (λ k. needFor q chart wanted task (jobs + k)) jobs most k
     × OutdatedFrom q chart wanted (releaseOf q task (jobs + k)) (outdated .until .0) (outdated .count)
 
 abbrev μ-loop : tie.MeasureT-loop
@@ -42,8 +44,15 @@ module _ (l : tie.In-loop Inv-loop μ-loop) where
   abbrev task : ℕ
   task = start .args .task
 
+  abbrev jobs : ℕ
+  jobs = start .args .ticks / columns .period task
+
   abbrev job : ℕ
-  job = start .args .ticks / columns .period task + l .before .loop .k
+  job = jobs + l .before .loop .k
+
+  -- what the jobs of the second hyperperiod ask for
+  abbrev asked : ℕ → ℕ
+  asked k = needFor columns (start .args .chart) (start .args .wanted) task (jobs + k)
 
   within : deadlineOf columns task job ≤ lastTick
   within =
@@ -56,8 +65,7 @@ div-jobs c =
     row-positive (k .pre .0) (k .args .task) (k .pre .4 .row) .0
 
 loop-holds : tie.Need-loop-holds Inv-loop μ-loop
-unfolding most
-loop-holds c = (omega arith, refl, λ r f g. absurd (omega arith))
+loop-holds c = (omega arith, most-none _ _, λ r f g. absurd (omega arith))
 
 jobs-small : (l : tie.In-loop Inv-loop μ-loop) → job l ≤ lastTick
 jobs-small l =
@@ -87,26 +95,54 @@ known c =
     let e = rw (← rw (c .before .release-of .ensures) at (c .outdated-at .ensures)) at k in
     (e .1 _ (le-refl _) (e .0), e .1)
 
+decides-requires : tie.Need-decides-requires Inv-loop μ-loop
+decides-requires c κs =
+    let r = c .before .before in
+    let l = r .before .before in
+    rw (r .release-of .ensures) (omega (arith, within l, start l .pre .5))
+
 need-requires : tie.Need-need-of-requires Inv-loop μ-loop
 need-requires c κs =
-    let l = c .before .before .before in
+    let o = c .before .before in
+    let l = o .before .before .before in
     let a = start l .args in
     let p = start l .pre in
-    (p .0, p .4, within l, omega (arith, known c .0, outdated-less (columns l) (p .0 .valid) (a .chart) (a .wanted) (task l) (job l) (p .4)))
+    (p .0, p .4, within l, omega (arith, known o .0, outdated-less (columns l) (p .0 .valid) (a .chart) (a .wanted) (task l) (job l) (p .4)))
+
+-- a job that does not decide is not the last, and asks for no more than the next
+passed-over : (d : tie.After-decides Inv-loop μ-loop) → let l = d .before .before .before .before .before in
+    d .decides .result ≡ false → (l .before .loop .k + 1 < jobs l) × (asked l (l .before .loop .k) ≤ asked l (l .before .loop .k + 1))
+passed-over d n =
+    let o = d .before .before in
+    let r = o .before in
+    let l = r .before .before in
+    let a = start l .args in
+    let p = start l .pre in
+    let k = l .before .loop .k in
+    let q = columns l in
+    let P = q .period (task l) in
+    let u = undecided (jobs l - k) (o .outdated-at .result .until .0) (releaseOf q (task l) (job l) + P)
+    (sym (rw (r .release-of .ensures) at (d .decides .ensures)) ∙ n) in
+    let e : jobs l + (k + 1) ≡ job l + 1 = omega arith in
+    let later : releaseOf q (task l) (jobs l + (k + 1)) ≡ releaseOf q (task l) (job l) + P = omega (arith, ap (λ (x : ℕ). x * P) e) in
+    let same = known o .1 (releaseOf q (task l) (jobs l + (k + 1))) (omega (arith, later)) (omega (arith, later, u .1)) in (
+      omega (arith, l .loop-test .taken, u .0),
+      need-rises q (p .0 .valid) (a .chart) (a .wanted) (task l) (job l) (jobs l + (k + 1)) (p .4) e (same ∙ sym (known o .0)),
+    )
 
 loop-again : tie.Need-loop-again Inv-loop μ-loop
 loop-again c =
     let n = c .before in
-    let o = n .before in
+    let d = n .before in
+    let o = d .before .before in
     let l = o .before .before .before in
-    let a = start l .args in
-    let e : n .need-of .result ≡ needFor (columns l) (a .chart) (a .wanted) (task l) (job l) = rw (known o .0) (n .need-of .ensures) in (
+    let k = l .before .loop .k in
+    let e : n .need-of .result ≡ only (d .decides .result) (asked l k) = rw (known o .0) (n .need-of .ensures) in
+    let g : c .larger .result ≡ max (l .before .loop .most) (only (d .decides .result) (asked l k)) = rw (← e) (c .larger .ensures) in (
       omega arith,
-      rw (
-        most-next (λ k. needFor (columns l) (a .chart) (a .wanted) (task l) (a .ticks / columns l .period (task l) + k)) (l .before .loop .k),
-        ← l .before .loop .inv .1,
-        ← e,
-      ) (c .larger .ensures),
+      subst (λ (m : ℕ). MostSoFar (asked l) (jobs l) m (k + 1)) (sym g)
+          (most-more (asked l) (jobs l) (l .before .loop .most) k (d .decides .result) (l .loop-test .taken) (l .before .loop .inv .1)
+          (passed-over d)),
       λ r f g. known o .1 r (omega (arith, f)) g,
     )
 
@@ -116,7 +152,7 @@ returns c =
     let a = l .before .before .args in
     let q = columnsAt (a .sends .now) (a .period .now) (a .deadline .now) (a .tasks) (a .queue) in
     let e : l .loop .k ≡ a .ticks / q .period (a .task) = omega arith in
-    rw e at (l .loop .inv .1)
+    sym (rw e at (l .loop .inv .1 .1 e))
 
 pub row-slots-spec : {M : Type 1} → statement M
 row-slots-spec =
@@ -133,9 +169,13 @@ row-slots-spec =
     (λ c. search needs)
     release-requires
     outdated-requires
+    (λ c. search needs)
+    (λ c. search needs)
+    (λ c. search needs)
+    decides-requires
     need-requires
     (λ c κs. search needs)
-    (λ c. omega (arith, jobs-small (c .before .before .before .before .before)))
+    (λ c. omega (arith, jobs-small (c .before .before .before .before .before .before .before)))
     (λ c. search needs)
     loop-again
     returns)
