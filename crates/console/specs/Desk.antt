@@ -222,6 +222,10 @@ frameTurn d m payload f = cond (isCall f) (callTurn d m payload f) (tableTurn d 
 unfoldable pub bytesTurn : Desk → List ℕ → List ℕ → Turn
 bytesTurn d m bytes = frameTurn d m (payloadIn bytes) (frameOf bytes)
 
+-- a line's bytes; a line that is no frame has none, and no bytes are no frame either
+unfoldable pub framedBytes : List ℕ → List ℕ
+framedBytes line = cond (isLine line) (bytesIn line) []
+
 -- "A line that is none of these or over 100 digits .. is answered 7ff000"
 unfoldable pub lineTurn : Desk → List ℕ → List ℕ → Turn
 lineTurn d m line = cond (isLine line) (bytesTurn d m (bytesIn line)) (bad d m)

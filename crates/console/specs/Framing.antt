@@ -7,9 +7,7 @@ use Rattle.frames.specs.Answers.{longestAnswer}
 use Rattle.frames.specs.Frames.{frameOf, payloadIn}
 use Rattle.console.specs.Desk.{Turn, bad, withState, lineCall, callTurn, frameTurn, bytesTurn, lineTurn, stepOf, Takes, StepGives}
 use Rattle.console.specs.Turns.{frame-taken}
-
-unfoldable pub framedBytes : List ℕ → List ℕ
-framedBytes line = cond (isLine line) (bytesIn line) []
+unfoldable pub use Rattle.console.specs.Desk.{framedBytes}
 
 -- a frame that means nothing is answered alike whether a plan runs or not
 nothing-turn : (d : Desk) (m payload : List ℕ) → callTurn d m payload Frame.Bad ≡ bad d m

@@ -117,10 +117,12 @@ fn row_slots<'a>(
     task: usize,
     ticks: u64,
 ) -> u64
-    requires { ⌜ Lent (now sends) (now period) (now deadline) tasks queue × (1 ≤ chart) × (chart ≤ longestPeriod) × (wanted ≤ longestPeriod)
+    requires { ⌜ Lent (now sends) (now period) (now deadline) tasks queue
+        × (1 ≤ chart) × (chart ≤ longestPeriod) × (wanted ≤ longestPeriod)
         × Sender (columnsAt (now sends) (now period) (now deadline) tasks queue) task
         × (getD (now period) task 0 ≤ longestPeriod) × (ticks ≤ longestHyperperiod) ⌝ }
-    ensures { λ r. ⌜ r ≡ rowSlotsFor (columnsAt (now (sends .entry)) (now (period .entry)) (now (deadline .entry)) tasks queue) chart wanted ticks task ⌝ }
+    ensures { λ r. ⌜ r ≡ rowSlotsFor (columnsAt (now (sends .entry)) (now (period .entry)) (now (deadline .entry)) tasks queue)
+        chart wanted ticks task ⌝ }
 {
     let jobs = ticks / period[task];
     let mut most: u64 = 0;
@@ -171,7 +173,8 @@ fn share<'a>(
     task: usize,
     ticks: u64,
 ) -> u64
-    requires { ⌜ Lent (now sends) (now period) (now deadline) tasks queue × (1 ≤ chart) × (chart ≤ longestPeriod) × (wanted ≤ longestPeriod) × (task < tasks)
+    requires { ⌜ Lent (now sends) (now period) (now deadline) tasks queue
+        × (1 ≤ chart) × (chart ≤ longestPeriod) × (wanted ≤ longestPeriod) × (task < tasks)
         × (getD (now period) task 0 ≤ longestPeriod) × (ticks ≤ longestHyperperiod) ⌝ }
     ensures { λ r. ⌜ r ≡ only ((columnsAt (now (sends .entry)) (now (period .entry)) (now (deadline .entry)) tasks queue) .sends task)
         (rowSlotsFor (columnsAt (now (sends .entry)) (now (period .entry)) (now (deadline .entry)) tasks queue) chart wanted ticks task) ⌝ }
