@@ -141,7 +141,8 @@ loop-again c =
     let g : c .larger .result ≡ max (l .before .loop .most) (only (d .decides .result) (asked l k)) = rw (← e) (c .larger .ensures) in (
       omega arith,
       subst (λ (m : ℕ). MostSoFar (asked l) (jobs l) m (k + 1)) (sym g)
-          (most-more (asked l) (jobs l) (l .before .loop .most) k (d .decides .result) (l .loop-test .taken) (l .before .loop .inv .1) (passed-over d)),
+          (most-more (asked l) (jobs l) (l .before .loop .most) k (d .decides .result) (l .loop-test .taken) (l .before .loop .inv .1)
+          (passed-over d)),
       λ r f g. known o .1 r (omega (arith, f)) g,
     )
 
