@@ -1,10 +1,10 @@
 -- One task's count up to a tick, from its count up to a tick before: the deadlines that follow are those of a task whose first one comes
 -- so many ticks after that tick.
-use Rattle.common.specs.Words.{ℕ, _+_, _-_, _*_, _/_, _%_, _<_, _≤_, arith, div-add-mod', ⊎-elim, _≡_, ap, div-eq-of-lt-le}
+use Rattle.common.specs.Words.{ℕ, _+_, _-_, _*_, _/_, _<_, _≤_, min, arith, ⊎-elim, _≡_, ap, div-eq-of-lt-le}
 use Rattle.common.specs.Tests.{lt-or-le}
 use Rattle.common.specs.Totals.{eq-by}
 use Rattle.model.specs.Model.{count}
-use Rattle.model.specs.Count.{count-iff, count-from}
+use Rattle.model.specs.Count.{count-iff, count-before, count-from}
 
 module _ (P D : ℕ) (pos : 1 ≤ P) where
   pub count-on : (t next x : ℕ) → t + next ≡ count P D t * P + D → count P D (t + x) ≡ count P D t + count P next x
@@ -26,8 +26,14 @@ module _ (P D : ℕ) (pos : 1 ≤ P) where
       omega (arith, e, ap (λ (n : ℕ). n * P) g, count-iff P next (k - count P D t) x pos .0 (omega arith)))
       (lt-or-le k (count P D t))))
 
--- less than a period after the first deadline it is the only one
-pub count-one : (P next x : ℕ) → next ≤ x → x - next < P → count P next x ≡ 1
-count-one P next x h l =
-    let z : (x - next) / P ≡ 0 = div-eq-of-lt-le P (omega arith) (omega arith) in
-    omega (arith, count-from P next x h, z)
+-- up to two periods after the tick before the first deadline there are at most two
+pub count-two : (P next x : ℕ) → 1 ≤ next → x + 1 - next - P ≤ P →
+    count P next x ≡ min (x + 1 - next) 1 + min (x + 1 - next - P) 1
+count-two P next x n h =
+    ⊎-elim (λ (l : x < next). omega (arith, count-before P next x l))
+    (λ (g : next ≤ x).
+    ⊎-elim
+    (λ (l : x - next < P). let z : (x - next) / P ≡ 0 = div-eq-of-lt-le P (omega arith) (omega arith) in omega (arith, count-from P next x g, z))
+    (λ (m : P ≤ x - next). let z : (x - next) / P ≡ 1 = div-eq-of-lt-le P (omega arith) (omega arith) in omega (arith, count-from P next x g, z))
+    (lt-or-le (x - next) P))
+    (lt-or-le x next)

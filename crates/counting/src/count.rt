@@ -1,7 +1,7 @@
 // Equation 1: the messages of a queue with deadlines up to a tick, and up to each of two ticks at once.
 use calendar::Tick;
 use plan::Plan;
-ghost use Rattle.common.specs.Words.{_≡_, _+_, _*_, _≤_};
+ghost use Rattle.common.specs.Words.{_≡_, _+_, _-_, _*_, _^_, _<_, _≤_, min};
 ghost use Rattle.model.specs.Model.{count, upTo};
 ghost use Rattle.plan.specs.Limits.{lastTick};
 ghost use Rattle.counting.specs.Columns.{columnsAt, Lent};
@@ -50,16 +50,32 @@ fn passed_at(period: u64, deadline: u64, at: Tick) -> Passed
     }
 }
 
-// The deadlines in so many ticks, of which the first comes after `next` of them. Most often it is one at most, and nothing is divided.
+// How far a number lies beyond another; 0 where it does not.
+fn beyond(number: u64, other: u64) -> u64
+    ensures { λ r. ⌜ r ≡ number - other ⌝ }
+{
+    if number < other { 0 } else { number - other }
+}
+
+fn at_most_one(number: u64) -> u64
+    ensures { λ r. ⌜ r ≡ min number 1 ⌝ }
+{
+    if number == 0 { 0 } else { 1 }
+}
+
+// The deadlines in so many ticks, of which the first comes after `next` of them. Most often there are two at most, and nothing is divided.
+// Whether a task has one is as good as chance, so there is no branch on it, which would be guessed wrong.
 fn deadlines_in(period: u64, next: u64, ticks: u64) -> u64
-    requires { ⌜ (1 ≤ period) × (1 ≤ next) ⌝ }
+    requires { ⌜ (1 ≤ period) × (1 ≤ next) × (ticks + 1 < 2 ^ 64) ⌝ }
     ensures { λ r. ⌜ r ≡ count period next ticks ⌝ }
 {
-    if ticks < next {
-        return 0;
+    let first = beyond(ticks + 1, next);
+    let second = beyond(first, period);
+    if second <= period {
+        at_most_one(first) + at_most_one(second)
+    } else {
+        (ticks - next) / period + 1
     }
-    let left = ticks - next;
-    if left < period { 1 } else { left / period + 1 }
 }
 
 // The counts up to a tick `low` and up to a tick `high`.
@@ -70,7 +86,7 @@ pub struct Counts {
 
 // One task's.
 fn counts_of(period: u64, deadline: u64, low: Tick, high: Tick) -> Counts
-    requires { ⌜ (1 ≤ period) × (1 ≤ deadline) × (low .0 ≤ high .0) ⌝ }
+    requires { ⌜ (1 ≤ period) × (1 ≤ deadline) × (low .0 ≤ high .0) × (high .0 ≤ lastTick) ⌝ }
     ensures { λ r. ⌜ (r .low ≡ count period deadline (low .0)) × (r .high ≡ count period deadline (high .0)) ⌝ }
 {
     let passed = passed_at(period, deadline, low);

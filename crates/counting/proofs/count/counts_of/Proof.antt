@@ -18,6 +18,12 @@ later d =
     (rw e at (p .passed-at .ensures .1)) in
     omega (arith, e, d .deadlines-in .ensures, rw h at on)
 
+deadlines-in-requires : tie.Need-deadlines-in-requires
+deadlines-in-requires c κs =
+    let p = c .before .before in
+    let k = p .before in
+    (k .pre .0, p .passed-at .ensures .2, omega (arith, k .pre .3))
+
 add-t7 : tie.Need-add-t7
 add-t7 c =
     let k = c .before .before .before .before .before in
@@ -29,4 +35,4 @@ returns c = (c .before .before .before .before .passed-at .ensures .0, later (c 
 
 pub counts-of-spec : {M : Type 1} → statement M
 counts-of-spec =
-    tie.close (tie.spec (λ c κs. search needs) (λ c. search needs) (λ c κs. search needs) add-t7 returns)
+    tie.close (tie.spec (λ c κs. search needs) (λ c. search needs) deadlines-in-requires add-t7 returns)

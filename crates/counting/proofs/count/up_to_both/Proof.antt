@@ -25,7 +25,7 @@ counts-of-requires c κs =
     let l = c .before .before .before .before .before in
     let k = l .before in
     let r = row-positive (k .pre .0) (l .loop .i) (omega arith) in
-    (r .0, r .1, k .pre .1)
+    (r .0, r .1, k .pre .1, k .pre .2)
 
 -- no part of a sum is more than all of it
 part-fits : (l : tie.In-loop Inv-loop μ-loop) (t : ℕ) → t ≤ lastTick → let a = l .before .before .args in
