@@ -11,15 +11,15 @@ use Rattle.frames.specs.Answers.{badBytes, messageBytes}
 use Rattle.frames.specs.Frames.{frameOf, payloadIn}
 use Rattle.frames.specs.Writing.{Written}
 use Rattle.console.specs.Types.{Tick, Number, Slot, Plan, State, SentAt, Received, ReceivedAt, Frame, Desk, Stepped, Called}
-use Rattle.console.specs.Desk.{Call, unmoved, sentBytes, sendCall, filler, receivedBytes, receiveCall, callOf, lineCall, callTurn, withState}
-use Rattle.console.specs.Desk.{isCall, tableTurn, bytesTurn, Takes}
+use Rattle.console.specs.Desk.{CallDone, unmoved, sentBytes, sendCall, filler, receivedBytes, receiveCall, callOf, lineCall, callTurn}
+use Rattle.console.specs.Desk.{withState, isCall, tableTurn, bytesTurn, Takes}
 use Rattle.console.specs.Turns.{frame-taken}
 
 abbrev pub stateOf : Tick → List ℕ → List ℕ → State
 stateOf before sent reading = record { tick = before; sent = sent; reading = reading }
 
 -- a function that takes a call leaves these columns, this memory and this buffer
-abbrev pub Leaves : Call → List ℕ → Called → List ℕ → List ℕ → List ℕ → List ℕ → Type 0
+abbrev pub Leaves : CallDone → List ℕ → Called → List ℕ → List ℕ → List ℕ → List ℕ → Type 0
 Leaves c out r sent reading memory after =
     (stateOf (r .tick) sent reading ≡ c .state) × (r .written ≡ length (c .answer)) × (memory ≡ c .memory)
     × (after ≡ sets out 0 (c .answer))

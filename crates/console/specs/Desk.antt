@@ -148,15 +148,16 @@ sentBytes (Sent.Stored n s) = storedBytes (n .0) (s .0)
 sentBytes (Sent.Refused r) = refusalBytes r
 
 -- what a call's line comes to: the state and the memory after it, and the bytes of the line that answers it
-pub record Call : Type 0 where
+pub record CallDone : Type 0 where
   pub state : State
   pub memory : List ℕ
   pub answer : List ℕ
 
-abbrev pub unmoved : State → List ℕ → Call
+-- 7ff000, and nothing is changed
+abbrev pub unmoved : State → List ℕ → CallDone
 unmoved s m = record { state = s; memory = m; answer = lineOf badBytes }
 
-abbrev pub sendCall : Plan → State → List ℕ → ℕ → ℕ → Tick → List ℕ → Call
+abbrev pub sendCall : Plan → State → List ℕ → ℕ → ℕ → Tick → List ℕ → CallDone
 sendCall p s m q i t payload = record {
   state = sendState s p m q i (t .0) payload;
   memory = sendMemory s p m q i (t .0) payload;
@@ -173,7 +174,7 @@ receivedBytes m (Received.Gap n i) = gapBytes (n .0) i
 receivedBytes m Received.Empty = emptyBytes
 receivedBytes m (Received.Refused r) = refusalBytes r
 
-abbrev pub receiveCall : Plan → State → List ℕ → ℕ → Tick → Call
+abbrev pub receiveCall : Plan → State → List ℕ → ℕ → Tick → CallDone
 receiveCall p s m q t = record {
   state = receiveState s p m q (t .0);
   memory = m;
@@ -181,7 +182,7 @@ receiveCall p s m q t = record {
 }
 
 -- any other frame is no call
-abbrev pub callOf : Plan → State → List ℕ → List ℕ → Frame → Call
+abbrev pub callOf : Plan → State → List ℕ → List ℕ → Frame → CallDone
 callOf p s m payload (Frame.Task period deadline) = unmoved s m
 callOf p s m payload (Frame.Queue receiver mask) = unmoved s m
 callOf p s m payload Frame.Go = unmoved s m
@@ -189,7 +190,7 @@ callOf p s m payload (Frame.Send q i t) = sendCall p s m q i t payload
 callOf p s m payload (Frame.Receive q t) = receiveCall p s m q t
 callOf p s m payload Frame.Bad = unmoved s m
 
-abbrev pub lineCall : Bool → Plan → State → List ℕ → List ℕ → Frame → Call
+abbrev pub lineCall : Bool → Plan → State → List ℕ → List ℕ → Frame → CallDone
 lineCall runs p s m payload f = cond runs (callOf p s m payload f) (unmoved s m)
 
 unfoldable pub callTurn : Desk → List ℕ → List ℕ → Frame → Turn
@@ -208,6 +209,7 @@ isCall (Frame.Send q i t) = true
 isCall (Frame.Receive q t) = true
 isCall Frame.Bad = true
 
+-- 01 to 03; a frame that is none of them does not belong to the table
 abbrev pub tableTurn : Desk → List ℕ → Frame → Turn
 tableTurn d m (Frame.Task period deadline) = taskTurn d m period deadline
 tableTurn d m (Frame.Queue receiver mask) = queueTurn d m receiver mask

@@ -2,8 +2,8 @@
 use Rattle.common.specs.Words.{ℕ, Bool, true, false, cond, List, _≡_, refl, _∙_}
 use Rattle.mailbox.specs.Calls.{sendAnswer, sendState, sendMemory, look, receiveState}
 use Rattle.console.specs.Framing.{line-framed}
-use Rattle.console.specs.Desk.{Turn, Call, says, bad, taskTurn, queueTurn, goTurn, withState, sentBytes, receivedBytes, callOf, lineCall, callTurn}
-use Rattle.console.specs.Desk.{frameTurn, bytesTurn, lineTurn}
+use Rattle.console.specs.Desk.{Turn, CallDone, says, bad, taskTurn, queueTurn, goTurn, withState, sentBytes, receivedBytes, callOf, lineCall}
+use Rattle.console.specs.Desk.{callTurn, frameTurn, bytesTurn, lineTurn}
 use Rattle.logs.specs.Types.{Tick, Frame, Desk}
 use Rattle.logs.specs.Said.{frameIn, payloadOf}
 
@@ -24,7 +24,7 @@ turnOf d m payload (Frame.Receive q t) = cond (d .running) (receiving d m q t) (
 turnOf d m payload Frame.Bad = bad d m
 
 -- a call's turn, whether the desk runs or not
-abbrev called : Desk → Call → Turn
+abbrev called : Desk → CallDone → Turn
 called d c = record { desk = withState d (c .state); memory = c .memory; answer = c .answer }
 
 call-turn : (d : Desk) (m payload : List ℕ) (f : Frame) (b : Bool) →
