@@ -5,18 +5,21 @@ use frames::frame::Frame;
 use mailbox::Received;
 use mailbox::Sent;
 use plan::Plan;
+use running::Remembered;
 ghost use Rattle.common.specs.Words.{_≡_, true, List, ℕ, _≤_, length};
 ghost use Rattle.plan.specs.Plan.{lentPlan};
 ghost use Rattle.plan.specs.Rules.{soundPlan};
+ghost use Rattle.window.specs.Window.{Remembers};
 ghost use Rattle.frames.specs.Answers.{longestAnswer};
 ghost use Rattle.frames.specs.Writing.{Written};
 ghost use Rattle.console.specs.Desk.{sentBytes, receivedBytes, sendCall, receiveCall, lineCall, isCall};
 ghost use Rattle.console.specs.CallLines.{stateOf, Leaves};
 
-// The state's tick after a call, and how many bytes of the buffer were written.
+// The state's tick after a call, how many bytes of the buffer were written, and the window to remember for the next call.
 pub struct Called {
     pub tick: Tick,
     pub written: usize,
+    pub remembered: Remembered,
 }
 
 // Whether a frame leaves the table alone: 04, 05, and one that means nothing.
@@ -78,6 +81,7 @@ fn send_line<'a>(
     at: Tick,
     payload: &[u8],
     out: &mut [u8],
+    remembered: Remembered,
 ) -> Called
     requires { ⌜ (sound ≡ soundPlan (lentPlan (now sends) (now period) (now deadline) (now receiver) (now size) (now place) tasks queues))
         × (longestAnswer ≤ length (now out)) ⌝ }
@@ -85,7 +89,8 @@ fn send_line<'a>(
         (lentPlan (now (sends .entry)) (now (period .entry)) (now (deadline .entry)) (now (receiver .entry))
         (now (size .entry)) (now (place .entry)) tasks queues)
         (stateOf before (now (sent .entry)) reading) (now (memory .entry)) queue task at (now (payload .entry)))
-        (now (out .entry)) r (now (sent .exit)) reading (now (memory .exit)) (now (out .exit))) ⌝ }
+        (now (out .entry)) (r .tick) (r .written) (now (sent .exit)) reading (now (memory .exit)) (now (out .exit)))
+        × (r .remembered ≡ remembered) ⌝ }
 {
     let done = running::send::send_on(
         sound,
@@ -108,7 +113,11 @@ fn send_line<'a>(
     let answer = done.answer;
     let tick = done.tick;
     let written = write_sent(out, answer);
-    Called { tick, written }
+    Called {
+        tick,
+        written,
+        remembered,
+    }
 }
 
 fn receive_line<'a>(
@@ -127,14 +136,18 @@ fn receive_line<'a>(
     queue: usize,
     at: Tick,
     out: &mut [u8],
+    remembered: Remembered,
 ) -> Called
     requires { ⌜ (sound ≡ soundPlan (lentPlan (now sends) (now period) (now deadline) (now receiver) (now size) (now place) tasks queues))
-        × (longestAnswer ≤ length (now out)) ⌝ }
+        × (longestAnswer ≤ length (now out))
+        × Remembers (lentPlan (now sends) (now period) (now deadline) (now receiver) (now size) (now place) tasks queues) remembered ⌝ }
     ensures { λ r. ⌜ ((sent : List ℕ) → Leaves (receiveCall
         (lentPlan (now (sends .entry)) (now (period .entry)) (now (deadline .entry)) (now (receiver .entry))
         (now (size .entry)) (now (place .entry)) tasks queues)
         (stateOf before sent (now (reading .entry))) (now (memory .entry)) queue at)
-        (now (out .entry)) r sent (now (reading .exit)) (now (memory .entry)) (now (out .exit))) ⌝ }
+        (now (out .entry)) (r .tick) (r .written) sent (now (reading .exit)) (now (memory .entry)) (now (out .exit)))
+        × Remembers (lentPlan (now (sends .entry)) (now (period .entry)) (now (deadline .entry)) (now (receiver .entry))
+        (now (size .entry)) (now (place .entry)) tasks queues) (r .remembered) ⌝ }
 {
     let done = running::receive::receive_on(
         sound,
@@ -151,11 +164,17 @@ fn receive_line<'a>(
         queue,
         at,
         before,
+        remembered,
     );
     let answer = done.answer;
     let tick = done.tick;
+    let seen = done.remembered;
     let written = write_received(out, memory, answer);
-    Called { tick, written }
+    Called {
+        tick,
+        written,
+        remembered: seen,
+    }
 }
 
 // A call's line: `runs` says whether a plan was started, `sound` whether it is sound, `before` is the state's tick, `sent` and `reading` are
@@ -178,20 +197,25 @@ pub fn call_line<'a>(
     frame: Frame,
     payload: &[u8],
     out: &mut [u8],
+    remembered: Remembered,
 ) -> Called
     requires { ⌜ (runs ≡ true → sound
         ≡ soundPlan (lentPlan (now sends) (now period) (now deadline) (now receiver) (now size) (now place) tasks queues))
-        × (longestAnswer ≤ length (now out)) ⌝ }
+        × (longestAnswer ≤ length (now out))
+        × Remembers (lentPlan (now sends) (now period) (now deadline) (now receiver) (now size) (now place) tasks queues) remembered ⌝ }
     ensures { λ r. ⌜ Leaves (lineCall runs
         (lentPlan (now (sends .entry)) (now (period .entry)) (now (deadline .entry)) (now (receiver .entry))
         (now (size .entry)) (now (place .entry)) tasks queues)
         (stateOf before (now (sent .entry)) (now (reading .entry))) (now (memory .entry)) (now (payload .entry)) frame)
-        (now (out .entry)) r (now (sent .exit)) (now (reading .exit)) (now (memory .exit)) (now (out .exit)) ⌝ }
+        (now (out .entry)) (r .tick) (r .written) (now (sent .exit)) (now (reading .exit)) (now (memory .exit)) (now (out .exit))
+        × Remembers (lentPlan (now (sends .entry)) (now (period .entry)) (now (deadline .entry)) (now (receiver .entry))
+        (now (size .entry)) (now (place .entry)) tasks queues) (r .remembered) ⌝ }
 {
     if !runs {
         return Called {
             tick: before,
             written: frames::answers::write_bad(out),
+            remembered,
         };
     }
     if let Frame::Send(queue, task, at) = frame {
@@ -213,6 +237,7 @@ pub fn call_line<'a>(
             at,
             payload,
             out,
+            remembered,
         );
     }
     if let Frame::Receive(queue, at) = frame {
@@ -232,10 +257,12 @@ pub fn call_line<'a>(
             queue,
             at,
             out,
+            remembered,
         );
     }
     Called {
         tick: before,
         written: frames::answers::write_bad(out),
+        remembered,
     }
 }

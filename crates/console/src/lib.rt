@@ -155,6 +155,7 @@ fn act(desk: Desk, memory: &mut [u8], frame: Frame, payload: &[u8], out: &mut [u
         frame,
         payload,
         out,
+        window::nothing(),
     );
     let tick = done.tick;
     let next = State {

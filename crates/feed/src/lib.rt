@@ -95,6 +95,7 @@ pub fn feed(
     let mut tick = state.tick;
     let mut sent = state.sent;
     let mut reading = state.reading;
+    let mut remembered = window::nothing();
     let mut u = used;
     let mut at = from;
     let mut w: usize = 0;
@@ -128,8 +129,10 @@ pub fn feed(
                 frame,
                 frames::frame::payload_in(&bytes[..n]),
                 &mut out[w..],
+                remembered,
             );
             tick = done.tick;
+            remembered = done.remembered;
             w += done.written;
         } else {
             let whole = desk_with(d, tick, sent, reading);
@@ -139,6 +142,7 @@ pub fn feed(
             tick = next.tick;
             sent = next.sent;
             reading = next.reading;
+            remembered = window::nothing();
             w += done.written;
         }
     }

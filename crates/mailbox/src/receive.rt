@@ -27,6 +27,7 @@ impl State {
             queue,
             at,
             before,
+            window::nothing(),
         );
         let answer = done.answer;
         let after = done.tick;

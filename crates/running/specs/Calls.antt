@@ -101,4 +101,4 @@ readPlaces (Received.Refused r) reading q = reading
 abbrev pub ReceiveLeaves : ℕ → List ℕ → Plan → List ℕ → ℕ → ℕ → ReceivedAt → List ℕ → Type 0
 ReceiveLeaves before reading p m q t r reading′ =
     let a = look before (getD reading q 0) p m q t in
-    (r ≡ record { answer = a; tick = tick (readTick a before t) }) × (reading′ ≡ readPlaces a reading q)
+    (r .answer ≡ a) × (r .tick ≡ tick (readTick a before t)) × (reading′ ≡ readPlaces a reading q)

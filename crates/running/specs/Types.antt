@@ -5,6 +5,7 @@ pub use Rattle.calendar.specs.declared.Tick.{Tick}
 pub use Rattle.plan.specs.declared.Plan.{Plan}
 pub use Rattle.plan.specs.declared.refusal.Refusal.{Refusal}
 pub use Rattle.plan.specs.declared.refusal.Verdict.{Verdict}
+pub use Rattle.window.specs.declared.Remembered.{Remembered}
 pub use Rattle.window.specs.declared.WindowEnds.{WindowEnds}
 pub use Rattle.running.specs.declared.Received.{Received}
 pub use Rattle.running.specs.declared.ReceivedAt.{ReceivedAt}

@@ -10,6 +10,7 @@ use calendar::Number;
 use calendar::Slot;
 use calendar::Tick;
 use plan::refusal::Refusal;
+pub use window::Remembered;
 
 pub enum Started {
     Ready,
@@ -36,7 +37,9 @@ pub struct SentAt {
     pub tick: Tick,
 }
 
+// And the window that a receive looked into, for the next one.
 pub struct ReceivedAt {
     pub answer: Received,
     pub tick: Tick,
+    pub remembered: Remembered,
 }

@@ -2,6 +2,7 @@
 // send.
 use crate::Received;
 use crate::ReceivedAt;
+use crate::Remembered;
 use calendar::Number;
 use calendar::Tick;
 use plan::Plan;
@@ -11,8 +12,15 @@ ghost use Rattle.calendar.specs.Calendar.{tick};
 ghost use Rattle.plan.specs.Limits.{queueLimit};
 ghost use Rattle.plan.specs.Plan.{lentPlan};
 ghost use Rattle.plan.specs.Rules.{soundPlan};
+ghost use Rattle.window.specs.Window.{Remembers};
 ghost use Rattle.running.specs.Calls.{look, readTick, readPlaces, ReceiveLeaves};
 ghost use Rattle.running.specs.Stepping.{mostNumber, CanStep};
+
+// What a look answers, and the window that it looked into.
+struct Looked {
+    answer: Received,
+    remembered: Remembered,
+}
 
 // Answers as a receive does. `sound` says whether the plan is; `before` is the state's tick, and `reading` its column of reading places.
 fn look_on<'a>(
@@ -30,12 +38,16 @@ fn look_on<'a>(
     at: Tick,
     before: Tick,
     reading: &[u64; Plan::QUEUES],
-) -> Received
-    requires { ⌜ sound ≡ soundPlan (lentPlan (now sends) (now period) (now deadline) (now receiver) (now size) (now place) tasks queues) ⌝ }
-    ensures { λ r. ⌜ r ≡ look (before .0) (getD (now (reading .entry)) queue 0)
+    remembered: Remembered,
+) -> Looked
+    requires { ⌜ (sound ≡ soundPlan (lentPlan (now sends) (now period) (now deadline) (now receiver) (now size) (now place) tasks queues))
+        × Remembers (lentPlan (now sends) (now period) (now deadline) (now receiver) (now size) (now place) tasks queues) remembered ⌝ }
+    ensures { λ r. ⌜ (r .answer ≡ look (before .0) (getD (now (reading .entry)) queue 0)
         (lentPlan (now (sends .entry)) (now (period .entry)) (now (deadline .entry)) (now (receiver .entry))
         (now (size .entry)) (now (place .entry)) tasks queues)
-        (now (memory .entry)) queue (at .0) ⌝ }
+        (now (memory .entry)) queue (at .0))
+        × Remembers (lentPlan (now (sends .entry)) (now (period .entry)) (now (deadline .entry)) (now (receiver .entry))
+        (now (size .entry)) (now (place .entry)) tasks queues) (r .remembered) ⌝ }
 {
     let verdict = judge::judge_receive(
         sound,
@@ -53,19 +65,29 @@ fn look_on<'a>(
         before,
     );
     if let Verdict::Refused(refusal) = verdict {
-        return Received::Refused(refusal);
+        return Looked {
+            answer: Received::Refused(refusal),
+            remembered,
+        };
     }
     let row = receiver[queue];
     let every = period[row];
-    let window = window::window_at(sends, period, deadline, tasks, queue, every, at);
+    let seen = window::window_for(sends, period, deadline, tasks, queue, every, at, remembered);
+    let window = seen.window;
     let next = window::next_number(Number(reading[queue]), window.before);
     if window.end.0 < next.0 {
-        return Received::Empty;
+        return Looked {
+            answer: Received::Empty,
+            remembered: seen,
+        };
     }
     let slot = slots::places::slot_for(place[queue], size[queue], next);
     let held = slots::number_in(memory, slot);
     if held.0 == next.0 {
-        return Received::Message(next, slot);
+        return Looked {
+            answer: Received::Message(next, slot),
+            remembered: seen,
+        };
     }
     let sender = window::sender_in(
         sends,
@@ -77,7 +99,10 @@ fn look_on<'a>(
         window.low,
         window.high,
     );
-    Received::Gap(next, sender)
+    Looked {
+        answer: Received::Gap(next, sender),
+        remembered: seen,
+    }
 }
 
 // The queue is read past a number, at a tick.
@@ -125,14 +150,18 @@ pub fn receive_on<'a>(
     queue: usize,
     at: Tick,
     before: Tick,
+    remembered: Remembered,
 ) -> ReceivedAt
-    requires { ⌜ sound ≡ soundPlan (lentPlan (now sends) (now period) (now deadline) (now receiver) (now size) (now place) tasks queues) ⌝ }
+    requires { ⌜ (sound ≡ soundPlan (lentPlan (now sends) (now period) (now deadline) (now receiver) (now size) (now place) tasks queues))
+        × Remembers (lentPlan (now sends) (now period) (now deadline) (now receiver) (now size) (now place) tasks queues) remembered ⌝ }
     ensures { λ r. ⌜ ReceiveLeaves (before .0) (now (reading .entry))
         (lentPlan (now (sends .entry)) (now (period .entry)) (now (deadline .entry)) (now (receiver .entry))
         (now (size .entry)) (now (place .entry)) tasks queues)
-        (now (memory .entry)) queue (at .0) r (now (reading .exit)) ⌝ }
+        (now (memory .entry)) queue (at .0) r (now (reading .exit))
+        × Remembers (lentPlan (now (sends .entry)) (now (period .entry)) (now (deadline .entry)) (now (receiver .entry))
+        (now (size .entry)) (now (place .entry)) tasks queues) (r .remembered) ⌝ }
 {
-    let answer = look_on(
+    let looked = look_on(
         sound,
         sends,
         period,
@@ -147,7 +176,14 @@ pub fn receive_on<'a>(
         at,
         before,
         reading,
+        remembered,
     );
+    let answer = looked.answer;
+    let seen = looked.remembered;
     let tick = step_on(reading, queue, at, before, answer);
-    ReceivedAt { answer, tick }
+    ReceivedAt {
+        answer,
+        tick,
+        remembered: seen,
+    }
 }

@@ -1,5 +1,6 @@
 // The window of a receiver's job, from the columns of a plan: its ticks and numbers, the number to read next, and the sender of a number
-// that lies in it. All functions are inner ones: callers have tested the plan (`Lent`) and stay within the last tick.
+// that lies in it. A job reads its window by many calls, so a caller may remember the window from one to the next. All functions are inner
+// ones: callers have tested the plan (`Lent`) and stay within the last tick.
 use calendar::Job;
 use calendar::Number;
 use calendar::Tick;
@@ -9,7 +10,7 @@ ghost use Rattle.model.specs.Model.{released, upTo, senderOf};
 ghost use Rattle.calendar.specs.Calendar.{tick, message};
 ghost use Rattle.plan.specs.Limits.{lastTick};
 ghost use Rattle.counting.specs.Columns.{columnsAt, Lent};
-ghost use Rattle.window.specs.Window.{windowAt};
+ghost use Rattle.window.specs.Window.{windowAt, noWindow, runsAt, JobsWindow};
 
 // The window of a receiver's job: the messages with deadlines after tick `low` and up to tick `high`, which have the numbers after
 // `before` and up to `end`.
@@ -18,6 +19,26 @@ pub struct WindowEnds {
     pub high: Tick,
     pub before: Number,
     pub end: Number,
+}
+
+// A queue, and the window of one of its receiver's jobs. No queue has the row QUEUES: there nothing is remembered.
+pub struct Remembered {
+    pub queue: usize,
+    pub window: WindowEnds,
+}
+
+pub fn nothing() -> Remembered
+    ensures { λ r. ⌜ r ≡ noWindow ⌝ }
+{
+    Remembered {
+        queue: Plan::QUEUES,
+        window: WindowEnds {
+            low: Tick(0),
+            high: Tick(0),
+            before: Number(0),
+            end: Number(0),
+        },
+    }
 }
 
 // The release of the job before, and tick 0 where there is none.
@@ -54,6 +75,48 @@ pub fn window_at<'a>(
         high,
         before: Number(counts.low),
         end: Number(counts.high),
+    }
+}
+
+// Whether a tick comes at or after a release, and before the next one.
+fn runs_at(release: Tick, every: u64, at: Tick) -> bool
+    ensures { λ r. ⌜ r ≡ runsAt (release .0) every (at .0) ⌝ }
+{
+    if at.0 < release.0 {
+        return false;
+    }
+    at.0 - release.0 < every
+}
+
+// The window of the job that was released last, of a queue whose receiver has the period `every`: the one that is remembered, where it is
+// the same job's.
+pub fn window_for<'a>(
+    sends: &'a [bool; Plan::CELLS],
+    period: &'a [u64; Plan::TASKS],
+    deadline: &'a [u64; Plan::TASKS],
+    tasks: usize,
+    queue: usize,
+    every: u64,
+    at: Tick,
+    remembered: Remembered,
+) -> Remembered
+    requires { ⌜ Lent (now sends) (now period) (now deadline) tasks queue × (1 ≤ every) × (at .0 ≤ lastTick)
+        × (remembered .queue ≡ queue →
+        JobsWindow (columnsAt (now sends) (now period) (now deadline) tasks queue) every (remembered .window)) ⌝ }
+    ensures { λ r. ⌜ r ≡ record {
+      queue = queue;
+      window = windowAt (columnsAt (now (sends .entry)) (now (period .entry)) (now (deadline .entry)) tasks queue) every (at .0);
+    } ⌝ }
+{
+    let window = remembered.window;
+    if remembered.queue == queue {
+        if runs_at(window.high, every, at) {
+            return remembered;
+        }
+    }
+    Remembered {
+        queue,
+        window: window_at(sends, period, deadline, tasks, queue, every, at),
     }
 }
 

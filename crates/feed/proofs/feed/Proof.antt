@@ -8,6 +8,7 @@ use mir.Val.{Fits}
 use Rattle.console.specs.declared.Desk.{Desk}
 use Rattle.console.specs.Desk.{withState}
 use Rattle.console.specs.CallLines.{stateOf, call-taken, table-taken}
+use Rattle.window.specs.Window.{Remembers, remembers-nothing}
 use Rattle.lines.specs.Ends.{end-past}
 use Rattle.feed.specs.Feed.{enough}
 use Rattle.feed.specs.Outcome.{consoleOf, fedFrom}
@@ -17,22 +18,25 @@ use Rattle.feed.proofs.feed.Statement.{statement}
 use Rattle.feed.proofs.feed.Tie as tie
 
 abbrev Inv-loop : tie.InvT-loop
-Inv-loop memory₀ held₀ used piece from out₀ d₀ tick₀ sent₀ reading₀ u₀ at₀ w₀ memory held out d tick sent reading u at w =
+Inv-loop memory₀ held₀ used piece from out₀ d₀ tick₀ sent₀ r₀ seen₀ u₀ at₀ w₀ memory held out d tick sent reading seen u at w =
     Underway (fedFrom (consoleOf d₀ memory₀) held₀ used piece from out₀) piece from held₀ out₀ memory held out
     (withState d (stateOf tick sent reading)) u at w
-    × (length memory ≡ length memory₀)
+    × (length memory ≡ length memory₀) × Remembers (d .plan) seen
 
 abbrev μ-loop : tie.MeasureT-loop
-μ-loop memory₀ held₀ used piece from out₀ d₀ tick₀ sent₀ reading₀ u₀ at₀ w₀ memory held out d tick sent reading u at w =
+μ-loop memory₀ held₀ used piece from out₀ d₀ tick₀ sent₀ r₀ seen₀ u₀ at₀ w₀ memory held out d tick sent reading seen u at w =
     length piece - at
 
 loop-holds : tie.Need-loop-holds Inv-loop μ-loop
 unfolding withState
 loop-holds c =
-    let k = c .before .before .before .before .before .before .before .before in
+    let k = c .before .before .before .before .before .before .before .before .before in
     let a = k .args in
-    let p = k .pre in
-    (underway-first (a .piece .now) (a .from) (a .memory .now) (a .held .now) (a .out .now) (a .desk) (a .used) (p .2) (p .0) (p .1) (p .3), refl)
+    let p = k .pre in (
+      underway-first (a .piece .now) (a .from) (a .memory .now) (a .held .now) (a .out .now) (a .desk) (a .used) (p .2) (p .0) (p .1) (p .3),
+      refl,
+      remembers-nothing (a .desk .plan) (c .nothing .ensures),
+    )
 
 -- ## The end of a line is looked for
 
@@ -41,7 +45,7 @@ module _ (e : tie.After-end-of Inv-loop μ-loop) where
   here = e .before .before
 
   abbrev start : tie.Start Inv-loop μ-loop
-  start = here .before .before .before .before .before .before .before .before .before
+  start = here .before .before .before .before .before .before .before .before .before .before
 
   abbrev piece : List ℕ
   piece = start .args .piece .now
@@ -123,11 +127,11 @@ call-line-requires : tie.Need-call-line-requires Inv-loop μ-loop
 unfolding withState
 call-line-requires c κs =
     let k = c .before .before .before .before .before .before .before .before .before .before .before .before .before .before .before in
-    (λ runs. sym (turn k .loop .inv .0 .sound .sound runs), room k)
+    (λ runs. sym (turn k .loop .inv .0 .sound .sound runs), room k, turn k .loop .inv .2)
 
 module _ (c : tie.After-struct-known Inv-loop μ-loop) where
   abbrev called : tie.After-call-line Inv-loop μ-loop
-  called = c .before .before .before .before .before .before
+  called = c .before .before .before .before .before .before .before
 
   abbrev call-frame : tie.After-frame-of Inv-loop μ-loop
   call-frame = called .before .before .before .before .before .before .before .before .before .before .before .before .before .before .before .before
@@ -140,10 +144,10 @@ module _ (c : tie.After-struct-known Inv-loop μ-loop) where
         result = _;
         memory′ = _;
         after = _;
-        same-size = c .before .before .before .before .before .memory .given;
+        same-size = c .before .before .before .before .before .before .memory .given;
         takes =
             call-taken (desk call-frame) _ _ _ (call-frame .frame-of .ensures) (i .before .is-call .ensures)
-            (called .before .before .payload-in .ensures .0) (i .if2 .taken) (called .call-line .ensures);
+            (called .before .before .payload-in .ensures .0) (i .if2 .taken) (called .call-line .ensures .0);
       }
 
 add-w : tie.Need-add-w Inv-loop μ-loop
@@ -152,13 +156,13 @@ add-w c = fits (call-frame c) (call-arm c)
 
 loop-again : tie.Need-loop-again Inv-loop μ-loop
 unfolding withState call-arm
-loop-again c = again (call-frame c) (call-arm c)
+loop-again c = let x = again (call-frame c) (call-arm c) in (x .0, x .1, called c .call-line .ensures .1)
 
 -- ## A frame that changes the desk as a whole
 
 module _ (c : tie.After-struct-known2 Inv-loop μ-loop) where
   abbrev set : tie.After-set-table Inv-loop μ-loop
-  set = c .before .before .before .before .before .before .before .before .before .before
+  set = c .before .before .before .before .before .before .before .before .before .before .before
 
   abbrev table-frame : tie.After-frame-of Inv-loop μ-loop
   table-frame = set .before .before .before .before .before .before
@@ -170,7 +174,7 @@ module _ (c : tie.After-struct-known2 Inv-loop μ-loop) where
         result = set .set-table .result;
         memory′ = _;
         after = _;
-        same-size = c .before .before .before .before .before .before .before .before .before .memory2 .given;
+        same-size = c .before .before .before .before .before .before .before .before .before .before .memory2 .given;
         takes =
             table-taken (desk table-frame) _ _ _ (table-frame .frame-of .ensures) (i .before .is-call .ensures)
             (set .before .before .before .desk-with2 .ensures) (i .if2 .left) (set .set-table .ensures);
@@ -182,7 +186,9 @@ add-w-2 c = fits (table-frame c) (table-arm c)
 
 loop-again-2 : tie.Need-loop-again-2 Inv-loop μ-loop
 unfolding withState table-arm
-loop-again-2 c = again (table-frame c) (table-arm c)
+loop-again-2 c =
+    let x = again (table-frame c) (table-arm c) in
+    (x .0, x .1, remembers-nothing (set c .set-table .result .desk .plan) (c .before .nothing2 .ensures))
 
 -- ## The room is short
 
@@ -196,7 +202,7 @@ pub feed-spec : {M : Type 1} → statement M
 feed-spec =
     tie.close
     (tie.spec
-    Inv-loop μ-loop loop-holds
+    Inv-loop μ-loop (λ c κs. search needs) loop-holds
     (λ c. search needs) (λ c κs. search needs)
     (λ c. search needs) (λ c. search needs) (λ c. search needs) (λ c κs. search needs)
     (λ c κs. search needs) (λ c κs. search needs) (λ c. search needs)
@@ -214,5 +220,5 @@ feed-spec =
     add-w (λ c. less (call-frame c)) loop-again
     (λ c κs. search needs)
     (λ c. search needs) (λ c. search needs) (λ c. search needs) (λ c κs. room (c .before .before .before .before .before))
-    add-w-2 (λ c. less (table-frame c)) loop-again-2
+    (λ c κs. search needs) add-w-2 (λ c. less (table-frame c)) loop-again-2
     (λ c κs. search needs) (λ c κs. search needs) (λ c. search needs) (λ c. search needs) (λ c. search needs) returns-2)

@@ -14,12 +14,16 @@ planOf k =
 returns : tie.Need-returns
 returns c =
     let w = c .before .before in
-    let o = w .before .before .before in
+    let o = w .before .before .before .before in
     let k = o .before .before .before .before in
-    let a = k .args in
-    λ sent.
-    receive-left (a .before) (a .reading .now) (planOf k) (a .memory .now) (a .queue) (a .at) (a .out .now) sent
-    (o .receive-on .ensures) (w .write-received .ensures)
+    let a = k .args in (
+      λ sent.
+          receive-left (a .before) (a .reading .now) (planOf k) (a .memory .now) (a .queue) (a .at) (a .out .now) sent (o .receive-on .result)
+          (o .receive-on .ensures .0) (w .write-received .ensures),
+      o .receive-on .ensures .1,
+    )
 
 pub receive-line-spec : {M : Type 1} → statement M
-receive-line-spec = tie.close (tie.spec (λ c κs. c .before .before .before .pre .0) (λ c κs. search needs) (λ c. search needs) returns)
+receive-line-spec =
+    tie.close
+    (tie.spec (λ c κs. let p = c .before .before .before .pre in (p .0, p .2)) (λ c κs. search needs) (λ c. search needs) returns)

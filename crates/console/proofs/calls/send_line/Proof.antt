@@ -1,5 +1,5 @@
 -- `console::calls::send_line`: what the running call left, and the line of its answer.
-use Rattle.common.specs.Words.{needs}
+use Rattle.common.specs.Words.{refl, needs}
 use Rattle.plan.specs.Plan.{lentPlan}
 use Rattle.console.specs.Types.{Plan}
 use Rattle.console.specs.CallLines.{send-left}
@@ -16,10 +16,12 @@ returns c =
     let w = c .before .before in
     let o = w .before .before .before .before .before in
     let k = o .before .before .before .before .before .before in
-    let a = k .args in
-    λ reading.
-    send-left (a .before) (a .sent .now) (planOf k) (a .memory .now) (a .queue) (a .task) (a .at) (a .payload .now) (a .out .now) reading
-    (o .send-on .ensures) (w .write-sent .ensures)
+    let a = k .args in (
+      λ reading.
+          send-left (a .before) (a .sent .now) (planOf k) (a .memory .now) (a .queue) (a .task) (a .at) (a .payload .now) (a .out .now) reading
+          (o .send-on .ensures) (w .write-sent .ensures),
+      refl,
+    )
 
 pub send-line-spec : {M : Type 1} → statement M
 send-line-spec =

@@ -1,6 +1,6 @@
 -- `receive::look_on`: by the verdict, by the window's last number, and by the number that the slot holds. The steps of a look are proved
 -- for any plan; the code's plan is the one that its lent columns make.
-use Rattle.common.specs.Words.{cond, List, _≡_, sym, _∙_, ℕ, _+_, _<_, _≤_, max, arith, ltb, getD, needs, lt-ltb, le-ltb, eq-eqb, ne-eqb}
+use Rattle.common.specs.Words.{cond, List, _≡_, sym, ap, _∙_, ℕ, _+_, _<_, _≤_, max, arith, ltb, getD, needs, lt-ltb, le-ltb, eq-eqb, ne-eqb}
 use Rattle.model.specs.Model.{receiverPeriod, upTo, senderOf}
 use Rattle.calendar.specs.Calendar.{message, slot}
 use Rattle.plan.specs.Limits.{taskLimit, lastTick, payloadBytes}
@@ -10,8 +10,8 @@ use Rattle.plan.specs.Verdicts.{verdict, outcome, by-verdict}
 use Rattle.counting.specs.Columns.{planColumns, lent, senderOf-columns}
 use Rattle.slots.specs.Slots.{numberIn}
 use Rattle.judge.specs.Accepted.{ReceiveTaken, receiver-fits, receive-taken}
-use Rattle.window.specs.Window.{planWindow, high-within, window-first, window-last, before-fits}
-use Rattle.running.specs.Types.{Number, Slot, Plan, Verdict, Received, WindowEnds}
+use Rattle.window.specs.Window.{planWindow, high-within, window-first, window-last, before-fits, Remembers, remembered-window, remembers-window}
+use Rattle.running.specs.Types.{Number, Slot, Plan, Verdict, Received, WindowEnds, Remembered}
 use Rattle.running.specs.Calls.{receiveLines, slotFor, found, acceptedReceive, look}
 use Rattle.running.specs.Bounds.{slots-small, slot-inside}
 use Rattle.running.proofs.receive.look_on.Statement.{statement}
@@ -75,19 +75,33 @@ module _ (t : tie.After-enum-told) where
   row-fits : queueAt (planOf start) (start .args .queue) .receiver < taskLimit
   row-fits = omega (arith, known .valid .receiver-row, known .tasks-fit)
 
+-- after the window is known
+module _ (w : tie.After-window-for) where
+  abbrev cleared : tie.After-enum-told
+  cleared = w .before .before .before
+
+  seen : w .window-for .result .window ≡ planWindow (planOf (start cleared)) (start cleared .args .queue) (start cleared .args .at .0)
+  seen = ap (λ (r : Remembered). r .window) (w .window-for .ensures)
+
+  sees : Remembers (planOf (start cleared)) (w .window-for .result)
+  sees = remembers-window (planOf (start cleared)) (start cleared .args .queue) (start cleared .args .at .0) (w .window-for .ensures)
+
 -- after the next number is reckoned
 module _ (n : tie.After-next-number) where
+  abbrev looking : tie.After-window-for
+  looking = n .before .before .before
+
   abbrev clear : tie.After-enum-told
-  clear = n .before .before .before .before .before
+  clear = cleared looking
 
   -- what the code then chooses is what a look answers
   looks : let a = start clear .args in let p = planOf (start clear) in let next = n .next-number .result .0 in (r : Received) →
-      r ≡ cond (ltb (n .before .before .window-at .result .end .0) next) Received.Empty (found p (a .memory .now) (a .queue) next) →
+      r ≡ cond (ltb (looking .window-for .result .window .end .0) next) Received.Empty (found p (a .memory .now) (a .queue) next) →
       r ≡ look (a .before .0) (getD (a .reading .now) (a .queue) 0) p (a .memory .now) (a .queue) (a .at .0)
   looks r e =
       let p = planOf (start clear) in
       let a = start clear .args in
-      e ∙ sym (chosen p _ _ _ _ (n .before .before .window-at .ensures) (n .next-number .ensures))
+      e ∙ sym (chosen p _ _ _ _ (seen looking) (n .next-number .ensures))
       ∙ decides p (a .memory .now) (a .queue) (a .at .0) (a .before .0) (getD (a .reading .now) (a .queue) 0)
       (clear .before .before .judge-receive .ensures) Verdict.Clear
       (clear .enum-told .given .1)
@@ -99,27 +113,41 @@ within i = clear (i .before .before .before)
 returns : tie.Need-returns
 returns c =
     let k = c .before .before .before in
-    let a = k .before .before .args in
-    decides (planOf (k .before .before)) (a .memory .now) (a .queue) (a .at .0) (a .before .0) (getD (a .reading .now) (a .queue) 0)
-    (k .judge-receive .ensures)
-    (Verdict.Refused _) (c .before .verdict .given .1)
+    let a = k .before .before .args in (
+      decides (planOf (k .before .before)) (a .memory .now) (a .queue) (a .at .0) (a .before .0) (getD (a .reading .now) (a .queue) 0)
+          (k .judge-receive .ensures) (Verdict.Refused _) (c .before .verdict .given .1),
+      k .before .before .pre .1,
+    )
 
-window-at-requires : tie.Need-window-at-requires
-window-at-requires c κs =
-    let t = c .before .before in
-    (lent (planOf (start t)) _ (known t), receiver-fits (known t) .0, taken t .tick-within)
+window-for-requires : tie.Need-window-for-requires
+window-for-requires c κs =
+    let t = c .before .before in (
+      lent (planOf (start t)) _ (known t),
+      receiver-fits (known t) .0,
+      taken t .tick-within,
+      remembered-window (planOf (start t)) (start t .args .queue) (start t .pre .1) (known t .queue-fits),
+    )
 
 next-number-requires : tie.Need-next-number-requires
 next-number-requires c κs =
-    let t = c .before .before .before .before in
-    rw (c .before .window-at .ensures) (before-fits (planOf (start t)) _ _ (known t) (taken t .tick-within))
+    let w = c .before .before in
+    let t = cleared w in
+    rw (seen w) (before-fits (planOf (start t)) _ _ (known t) (taken t .tick-within))
+
+returns-2 : tie.Need-returns-2
+returns-2 c =
+    let n = c .before .before .before in
+    (looks n _ (rw (lt-ltb _ _ (c .if1 .taken))), sees (looking n))
 
 returns-3 : tie.Need-returns-3
 returns-3 c =
     let h = c .before .before .before in
     let i = h .before .before .before .before in
-    looks (i .before .before .before) _
-    (rw (le-ltb _ _ (i .if1 .left)) (is-message _ _ _ _ (h .before .slot-for .ensures) (h .number-in .ensures) (c .if2 .taken)))
+    let n = i .before .before .before in (
+      looks n _
+          (rw (le-ltb _ _ (i .if1 .left)) (is-message _ _ _ _ (h .before .slot-for .ensures) (h .number-in .ensures) (c .if2 .taken))),
+      sees (looking n),
+    )
 
 sender-in-requires : tie.Need-sender-in-requires
 sender-in-requires c κs =
@@ -128,23 +156,27 @@ sender-in-requires c κs =
     let t = clear n in
     let p = planOf (start t) in
     let a = start t .args in
-    let o = in-window p (a .memory .now) (a .queue) (a .at .0) _ (n .before .before .window-at .ensures) (n .next-number .ensures) (i .if1 .left) in
+    let o = in-window p (a .memory .now) (a .queue) (a .at .0) _ (seen (looking n)) (n .next-number .ensures) (i .if1 .left) in
     let high = high-within (receiverPeriod (queueAt p (a .queue))) (a .at .0) in
-    (lent p _ (known t), rw (n .before .before .window-at .ensures) (omega (arith, taken t .tick-within, high)), o .0, o .1)
+    (lent p _ (known t), rw (seen (looking n)) (omega (arith, taken t .tick-within, high)), o .0, o .1)
 
 returns-4 : tie.Need-returns-4
 returns-4 c =
     let j = c .before in
     let h = j .before .before .before in
     let i = h .before .before .before .before in
-    looks (i .before .before .before) _
-    (rw (le-ltb _ _ (i .if1 .left)) (is-gap _ _ _ _ (h .before .slot-for .ensures) (h .number-in .ensures) (j .if2 .left) (c .sender-in .ensures)))
+    let n = i .before .before .before in (
+      looks n _
+          (rw (le-ltb _ _ (i .if1 .left))
+          (is-gap _ _ _ _ (h .before .slot-for .ensures) (h .number-in .ensures) (j .if2 .left) (c .sender-in .ensures))),
+      sees (looking n),
+    )
 
 pub look-on-spec : {M : Type 1} → statement M
 look-on-spec =
     tie.close
     (tie.spec
-    (λ c κs. search needs)
+    (λ c κs. c .before .pre .0)
     (λ c. search needs)
     returns
     (λ c. search needs)
@@ -152,11 +184,11 @@ look-on-spec =
     (λ c. known c .queue-fits)
     (λ c. let f = row-fits (c .before) in search needs)
     (λ c. row-fits (c .before))
-    window-at-requires
-    (λ c. let f = known (c .before .before .before) .queue-fits in search needs)
-    (λ c. known (c .before .before .before) .queue-fits)
+    window-for-requires
+    (λ c. let f = known (cleared (c .before)) .queue-fits in search needs)
+    (λ c. known (cleared (c .before)) .queue-fits)
     next-number-requires
-    (λ c. looks (c .before .before .before) _ (rw (lt-ltb _ _ (c .if1 .taken))))
+    returns-2
     (λ c. let f = known (within c) .queue-fits in search needs)
     (λ c. known (within c) .queue-fits)
     (λ c. let f = known (within (c .before)) .queue-fits in search needs)
