@@ -20,41 +20,41 @@ stateOf before sent reading = record { tick = before; sent = sent; reading = rea
 
 -- a function that takes a call leaves this tick, as many bytes written, these columns, this memory and this buffer
 abbrev pub Leaves : CallDone → List ℕ → Tick → ℕ → List ℕ → List ℕ → List ℕ → List ℕ → Type 0
-Leaves c out tick written sent reading memory after =
+Leaves c out tick written sent reading memory out′ =
     (stateOf tick sent reading ≡ c .state) × (written ≡ length (c .answer)) × (memory ≡ c .memory)
-    × (after ≡ sets out 0 (c .answer))
+    × (out′ ≡ sets out 0 (c .answer))
 
 -- the desk's turn
-pub turn-left : (d : Desk) (m payload out : List ℕ) (f : Frame) {tick : Tick} {n : ℕ} {sent reading memory after : List ℕ} →
-    Leaves (lineCall (d .running) (d .plan) (d .state) m payload f) out tick n sent reading memory after →
-    Takes (callTurn d m payload f) out (record { desk = withState d (stateOf tick sent reading); written = n }) memory after
+pub turn-left : (d : Desk) (m payload out : List ℕ) (f : Frame) {tick : Tick} {n : ℕ} {sent reading memory out′ : List ℕ} →
+    Leaves (lineCall (d .running) (d .plan) (d .state) m payload f) out tick n sent reading memory out′ →
+    Takes (callTurn d m payload f) out (record { desk = withState d (stateOf tick sent reading); written = n }) memory out′
 unfolding callTurn
 turn-left d m payload out f e = (rw (e .0, e .1), e .2, e .3)
 
 -- and so the turn of a line's bytes, by what its frame is
-module _ (d : Desk) (m bytes out : List ℕ) {f : Frame} {b : Bool} {memory after : List ℕ} (framed : f ≡ frameOf bytes)
+module _ (d : Desk) (m bytes out : List ℕ) {f : Frame} {b : Bool} {memory out′ : List ℕ} (framed : f ≡ frameOf bytes)
     (told : b ≡ isCall f) where
   pub call-taken : {payload : List ℕ} {tick : Tick} {n : ℕ} {sent reading : List ℕ} → payload ≡ payloadIn bytes → b ≡ true →
-      Leaves (lineCall (d .running) (d .plan) (d .state) m payload f) out tick n sent reading memory after →
-      Takes (bytesTurn d m bytes) out (record { desk = withState d (stateOf tick sent reading); written = n }) memory after
+      Leaves (lineCall (d .running) (d .plan) (d .state) m payload f) out tick n sent reading memory out′ →
+      Takes (bytesTurn d m bytes) out (record { desk = withState d (stateOf tick sent reading); written = n }) memory out′
   call-taken p h e = frame-taken d m bytes out framed p (rw (sym told ∙ h) (turn-left d m _ out f e))
 
-  pub table-taken : {whole : Desk} {r : Stepped} → whole ≡ d → b ≡ false → Takes (tableTurn whole m f) out r memory after →
-      Takes (bytesTurn d m bytes) out r memory after
+  pub table-taken : {whole : Desk} {r : Stepped} → whole ≡ d → b ≡ false → Takes (tableTurn whole m f) out r memory out′ →
+      Takes (bytesTurn d m bytes) out r memory out′
   table-taken g h e = frame-taken d m bytes out {payload = payloadIn bytes} framed refl (rw (sym told ∙ h) (rw g at e))
 
 -- a line that changes nothing
-pub bad-left : (before : Tick) (sent reading m out : List ℕ) {n : ℕ} {after : List ℕ} → Written badBytes out n after →
-    Leaves (unmoved (stateOf before sent reading) m) out before n sent reading m after
+pub bad-left : (before : Tick) (sent reading m out : List ℕ) {n : ℕ} {out′ : List ℕ} → Written badBytes out n out′ →
+    Leaves (unmoved (stateOf before sent reading) m) out before n sent reading m out′
 bad-left before sent reading m out w = (refl, w .0, refl, w .1)
 
 -- ## 04
 
 pub send-left : (before : Tick) (sent : List ℕ) (p : Plan) (m : List ℕ) (q i : ℕ) (t : Tick) (payload out reading : List ℕ) {r : SentAt}
-    {sent′ memory : List ℕ} {n : ℕ} {after : List ℕ} →
+    {sent′ memory : List ℕ} {n : ℕ} {out′ : List ℕ} →
     running.SendLeaves (before .0) sent p m q i (t .0) payload r sent′ memory →
-    Written (sentBytes (r .answer)) out n after →
-    Leaves (sendCall p (stateOf before sent reading) m q i t payload) out (r .tick) n sent′ reading memory after
+    Written (sentBytes (r .answer)) out n out′ →
+    Leaves (sendCall p (stateOf before sent reading) m q i t payload) out (r .tick) n sent′ reading memory out′
 unfolding sendState
 send-left before sent p m q i t payload out reading e w = let l = rw (e .0) at w in (rw (e .0, e .1), l .0, e .2, l .1)
 
@@ -72,15 +72,15 @@ view-short (Received.Gap n i) m = omega arith
 view-short Received.Empty m = omega arith
 view-short (Received.Refused r) m = omega arith
 
-pub message-line : (a : Received) (n : Number) (s : Slot) (m payload out after : List ℕ) (k : ℕ) → a ≡ Received.Message n s →
-    payload ≡ viewOf (Received.Message n s) m filler → Written (messageBytes (n .0) payload) out k after →
-    Written (receivedBytes m a) out k after
-message-line a n s m payload out after k e f w = rw e (rw f at w)
+pub message-line : (a : Received) (n : Number) (s : Slot) (m payload out out′ : List ℕ) (k : ℕ) → a ≡ Received.Message n s →
+    payload ≡ viewOf (Received.Message n s) m filler → Written (messageBytes (n .0) payload) out k out′ →
+    Written (receivedBytes m a) out k out′
+message-line a n s m payload out out′ k e f w = rw e (rw f at w)
 
 pub receive-left : (before : Tick) (reading : List ℕ) (p : Plan) (m : List ℕ) (q : ℕ) (t : Tick) (out sent : List ℕ) (r : ReceivedAt)
-    {reading′ : List ℕ} {n : ℕ} {after : List ℕ} → running.ReceiveLeaves (before .0) reading p m q (t .0) r reading′ →
-    Written (receivedBytes m (r .answer)) out n after →
-    Leaves (receiveCall p (stateOf before sent reading) m q t) out (r .tick) n sent reading′ m after
+    {reading′ : List ℕ} {n : ℕ} {out′ : List ℕ} → running.ReceiveLeaves (before .0) reading p m q (t .0) r reading′ →
+    Written (receivedBytes m (r .answer)) out n out′ →
+    Leaves (receiveCall p (stateOf before sent reading) m q t) out (r .tick) n sent reading′ m out′
 unfolding receiveState
 receive-left before reading p m q t out sent r e w = let l = rw (e .0) at w in (rw (e .1, e .2), l .0, refl, l .1)
 

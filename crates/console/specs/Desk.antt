@@ -44,7 +44,7 @@ newDesk = record {
 }
 
 -- what every turn keeps of a desk: the plan that it runs is sound
-pub record Kept (d : Desk) : Type 0 where
+pub record SoundDesk (d : Desk) : Type 0 where
   pub sound : d .running ≡ true → soundPlan (d .plan) ≡ true
 
 -- ## 01 and 02: one row more, which is not answered. "01 to 03 after an accepted 03, a row beyond 16 and 8 .. is answered 7ff000"
@@ -241,13 +241,13 @@ abbrev pub replyOf : List ℕ → Turn → Reply
 replyOf out t = cond (ltb (length out) longestAnswer) Reply.NoRoom (Reply.Written (length (t .answer)))
 
 abbrev pub StepGives : Desk → List ℕ → List ℕ → List ℕ → Replied → List ℕ → List ℕ → Type 0
-StepGives d m line out r memory after =
+StepGives d m line out r memory out′ =
     let t = stepOf d m line out in
-    (r ≡ record { desk = t .desk; reply = replyOf out t }) × (memory ≡ t .memory) × (after ≡ sets out 0 (t .answer))
+    (r ≡ record { desk = t .desk; reply = replyOf out t }) × (memory ≡ t .memory) × (out′ ≡ sets out 0 (t .answer))
 
 -- what a function that takes a turn hands back, where there is room for its answer
 abbrev pub stepped : Turn → Stepped
 stepped t = record { desk = t .desk; written = length (t .answer) }
 
 abbrev pub Takes : Turn → List ℕ → Stepped → List ℕ → List ℕ → Type 0
-Takes t out r memory after = (r ≡ stepped t) × (memory ≡ t .memory) × (after ≡ sets out 0 (t .answer))
+Takes t out r memory out′ = (r ≡ stepped t) × (memory ≡ t .memory) × (out′ ≡ sets out 0 (t .answer))

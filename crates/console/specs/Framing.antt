@@ -41,9 +41,9 @@ step-short d m line out h = rw (lt-ltb (length out) longestAnswer h) (refl, refl
 
 -- with room for an answer it takes the turn of the line's bytes
 pub step-taken : (d : Desk) (m line out : List ℕ) → longestAnswer ≤ length out →
-    {bytes payload : List ℕ} {f : Frame} {r : Stepped} {memory after : List ℕ} →
-    bytes ≡ framedBytes line → f ≡ frameOf bytes → payload ≡ payloadIn bytes → Takes (frameTurn d m payload f) out r memory after →
-    StepGives d m line out (record { desk = r .desk; reply = Reply.Written (r .written) }) memory after
+    {bytes payload : List ℕ} {f : Frame} {r : Stepped} {memory out′ : List ℕ} →
+    bytes ≡ framedBytes line → f ≡ frameOf bytes → payload ≡ payloadIn bytes → Takes (frameTurn d m payload f) out r memory out′ →
+    StepGives d m line out (record { desk = r .desk; reply = Reply.Written (r .written) }) memory out′
 unfolding stepOf
 step-taken d m line out room b f p x =
     let y = rw (b, ← line-framed d m line) at (frame-taken d m _ out f p x) in

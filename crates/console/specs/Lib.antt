@@ -6,6 +6,6 @@ pub mod CallLines
 pub mod Starts
 pub mod Framing
 pub mod LongLines
-pub mod Kept
+pub mod SoundDesk
 pub mod Fits
 pub mod Unique

@@ -31,20 +31,20 @@ refused-untouched p m r e = go (passed-or-stopped (startLines p m))
     go (inr h) = stopped-refused (startLines p m) (h .0) (λ s. m) _ (h .1)
 
 module _ (d : Desk) (p : Plan) (m out : List ℕ) (x : Starting) (memory : List ℕ) (is : StartGives p m x memory) where
-  pub start-refused : (r : Refusal) (s : Stepped) (after : List ℕ) (k : Desk) → x .answer ≡ Started.Refused r → k ≡ newDesk →
-      ((b : List ℕ) → Takes (says k b (refusalBytes r)) out s b after) → Takes (startTurn d p m (startAnswer p m)) out s memory after
-  start-refused r s after k e g t =
+  pub start-refused : (r : Refusal) (s : Stepped) (out′ : List ℕ) (k : Desk) → x .answer ≡ Started.Refused r → k ≡ newDesk →
+      ((b : List ℕ) → Takes (says k b (refusalBytes r)) out s b out′) → Takes (startTurn d p m (startAnswer p m)) out s memory out′
+  start-refused r s out′ k e g t =
       let f : startAnswer p m ≡ Started.Refused r = ap (λ (y : Starting). y .answer) (sym (is .0)) ∙ e in
       let u = rw g at (t m) in
       rw f (u .0, is .1 ∙ refused-untouched p m r f, u .2)
 
-  pub start-ready : (next : Desk) (n : ℕ) (after : List ℕ) → x .answer ≡ Started.Ready → next ≡ withRun d p (x .state) →
-      Written (sizesBytes (p .size) (p .queues)) out n after →
-      Takes (startTurn d p m (startAnswer p m)) out (record { desk = next; written = n }) memory after
-  start-ready next n after e g w =
+  pub start-ready : (next : Desk) (n : ℕ) (out′ : List ℕ) → x .answer ≡ Started.Ready → next ≡ withRun d p (x .state) →
+      Written (sizesBytes (p .size) (p .queues)) out n out′ →
+      Takes (startTurn d p m (startAnswer p m)) out (record { desk = next; written = n }) memory out′
+  start-ready next n out′ e g w =
       let f : startAnswer p m ≡ Started.Ready = ap (λ (y : Starting). y .answer) (sym (is .0)) ∙ e in
       let o : next ≡ withRun d p fresh = g ∙ ap (λ (y : Starting). withRun d p (y .state)) (is .0) in
-      rw (f, is .1, o) (written _ _ _ out after n w)
+      rw (f, is .1, o) (written _ _ _ out out′ n w)
 
 module _ (d : Desk) (m : List ℕ) where
   pub go-running : d .running ≡ true → goTurn d m ≡ bad d m
@@ -56,12 +56,12 @@ module _ (d : Desk) (m : List ℕ) where
   unfolding goTurn
   go-planned x h e = when-false _ _ h ∙ ap (λ (y : Planned). planTurn d (y .plan) m (y .answer)) (sym e)
 
-  module _ (out : List ℕ) (x : Planned) (s : Stepped) (memory after : List ℕ) (stopped : d .running ≡ false) (is : x ≡ planned d) where
+  module _ (out : List ℕ) (x : Planned) (s : Stepped) (memory out′ : List ℕ) (stopped : d .running ≡ false) (is : x ≡ planned d) where
     pub go-refused : (r : Refusal) (k : Desk) → x .answer ≡ Answer.Refused r → k ≡ newDesk →
-        Takes (says k m (refusalBytes r)) out s memory after →
-        Takes (goTurn d m) out s memory after
+        Takes (says k m (refusalBytes r)) out s memory out′ →
+        Takes (goTurn d m) out s memory out′
     go-refused r k e g t = rw (go-planned x stopped is, e) (rw g at t)
 
-    pub go-accepted : x .answer ≡ Answer.Accepted → Takes (startTurn d (x .plan) m (startAnswer (x .plan) m)) out s memory after →
-        Takes (goTurn d m) out s memory after
+    pub go-accepted : x .answer ≡ Answer.Accepted → Takes (startTurn d (x .plan) m (startAnswer (x .plan) m)) out s memory out′ →
+        Takes (goTurn d m) out s memory out′
     go-accepted e t = rw (go-planned x stopped is, e) t

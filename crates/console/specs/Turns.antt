@@ -15,9 +15,9 @@ pub when-false : {A : Type 0} {b : Bool} (x y : A) → b ≡ false → cond b x 
 when-false x y h = ap (λ (b : Bool). cond b x y) h
 
 -- a line was written, and the desk and the memory are known
-pub written : (d : Desk) (m bytes out after : List ℕ) (n : ℕ) → Written bytes out n after →
-    Takes (says d m bytes) out (record { desk = d; written = n }) m after
-written d m bytes out after n w = (rw (w .0), refl, w .1)
+pub written : (d : Desk) (m bytes out out′ : List ℕ) (n : ℕ) → Written bytes out n out′ →
+    Takes (says d m bytes) out (record { desk = d; written = n }) m out′
+written d m bytes out out′ n w = (rw (w .0), refl, w .1)
 
 -- ## 01 and 02
 
@@ -45,8 +45,8 @@ module _ (d : Desk) (m : List ℕ) (full : Bool) (more : Desk) where
 
 -- ## A frame
 
-pub frame-taken : (d : Desk) (m bytes out : List ℕ) {g : Frame} {payload : List ℕ} {r : Stepped} {memory after : List ℕ} →
-    g ≡ frameOf bytes → payload ≡ payloadIn bytes → Takes (frameTurn d m payload g) out r memory after →
-    Takes (bytesTurn d m bytes) out r memory after
+pub frame-taken : (d : Desk) (m bytes out : List ℕ) {g : Frame} {payload : List ℕ} {r : Stepped} {memory out′ : List ℕ} →
+    g ≡ frameOf bytes → payload ≡ payloadIn bytes → Takes (frameTurn d m payload g) out r memory out′ →
+    Takes (bytesTurn d m bytes) out r memory out′
 unfolding bytesTurn
 frame-taken d m bytes out e p x = rw (← e, ← p) x

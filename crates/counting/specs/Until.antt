@@ -19,11 +19,11 @@ module _ (P D : ℕ) (pos : 1 ≤ P) (dpos : 1 ≤ D) where
   count-earlier (suc t) = omega (arith, count-tick P D (suc t) pos dpos (omega arith))
 
   -- by whether the row sends, and whether it goes after
-  split : (t : ℕ) (on after : Bool) →
-      only on (count P D (cond after (t - 1) t)) + only (on && hasDeadline P D t) (only after 1) ≡ only on (count P D t)
+  split : (t : ℕ) (on later : Bool) →
+      only on (count P D (cond later (t - 1) t)) + only (on && hasDeadline P D t) (only later 1) ≡ only on (count P D t)
   split t true true = count-earlier t
   split t true false = omega (arith, only-zero (hasDeadline P D t))
-  split t false after = refl
+  split t false later = refl
 
 module _ (q : Queue) (v : Valid q) (t i : ℕ) where
   row-until : (j : ℕ) → j < q .rows → rowUntil q t i j + rowFollowers q t i j ≡ rowUpTo q t j

@@ -24,10 +24,10 @@ fn tick_before(at: Tick) -> Tick
 }
 
 // Up to which tick a row's messages count for the number of the task's at a tick, by whether the row goes after it.
-fn last_counted(after: bool, before: Tick, at: Tick) -> Tick
-    ensures { λ r. ⌜ r .0 ≡ cond after (before .0) (at .0) ⌝ }
+fn last_counted(later: bool, before: Tick, at: Tick) -> Tick
+    ensures { λ r. ⌜ r .0 ≡ cond later (before .0) (at .0) ⌝ }
 {
-    if after { before } else { at }
+    if later { before } else { at }
 }
 
 pub fn number_due<'a>(

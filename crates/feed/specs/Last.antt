@@ -33,9 +33,9 @@ one-line w c room h = rw (le-ltb room enough h) (go (ltb (room - length (reply w
     go false = rw (append-nil (reply w c))
 
 pub last-fed : (d : Desk) (m held : List ℕ) (used : ℕ) (out : List ℕ) → 0 < used → used ≤ length held → enough ≤ length out →
-    {r : Fed} {memory held′ after : List ℕ} →
-    Outcome (fedFrom (consoleOf d m) held used (lineFeed ∷ []) 0 out) (lineFeed ∷ []) 0 held out r memory held′ after →
-    Takes (lastTurn d m (take used held)) out (record { desk = r .desk; written = r .written }) memory after
+    {r : Fed} {memory held′ out′ : List ℕ} →
+    Outcome (fedFrom (consoleOf d m) held used (lineFeed ∷ []) 0 out) (lineFeed ∷ []) 0 held out r memory held′ out′ →
+    Takes (lastTurn d m (take used held)) out (record { desk = r .desk; written = r .written }) memory out′
 last-fed d m held used out some fits room o =
     let c = take used held in
     let n : length c ≡ used = length-take-le used held fits in

@@ -1,7 +1,7 @@
 -- What a call of `feed` leaves: the result, and the three buffers, from the one definition of feeding.
 use Rattle.common.specs.Words.{ℕ, _+_, _≤_, List, _≡_, length, take, drop, sets}
 use Rattle.console.specs.declared.Desk.{Desk}
-use Rattle.lines.specs.Lines.{kept}
+use Rattle.lines.specs.Lines.{carryLimit}
 pub use Rattle.feed.specs.Answers.{consoleOf}
 use Rattle.feed.specs.Answers.{Console}
 use Rattle.feed.specs.Feed.{Feeding, feedOf}
@@ -21,6 +21,6 @@ pub record Outcome (f : Feeding) (piece : List ℕ) (from : ℕ) (held₀ out₀
   pub held-length : length held ≡ length held₀
   pub out-is : out ≡ sets out₀ 0 (f .answers)
   -- so that the next call can be made
-  pub used-fits : r .used ≤ kept
+  pub used-fits : r .used ≤ carryLimit
   pub next-fits : r .next ≤ length piece
   pub written-fits : r .written ≤ length out₀

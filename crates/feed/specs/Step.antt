@@ -4,13 +4,13 @@ use Rattle.common.specs.Words.{drop-of-length-le, sets, sets-eq, take-all, drop
 use borrow.Rule.Slice.PartMut.{midOf, putMid}
 use Rattle.console.specs.declared.Desk.{Desk}
 use Rattle.console.specs.Desk.{lineTurn}
-use Rattle.lines.specs.Lines.{kept, cut}
+use Rattle.lines.specs.Lines.{carryLimit, cut}
 use Rattle.console.specs.LongLines.{line-taken}
 
 -- a line that is cut is answered as the whole line is
 pub line-cut : (d : Desk) (m line : List ℕ) → lineTurn d m (cut line) ≡ lineTurn d m line
 unfolding cut
-line-cut d m line = line-taken d m line kept (omega arith)
+line-cut d m line = line-taken d m line carryLimit (omega arith)
 
 -- ## A part of a buffer, from a place to the end
 

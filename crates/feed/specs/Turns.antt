@@ -9,11 +9,11 @@ use Rattle.console.specs.declared.Desk.{Desk}
 use Rattle.console.specs.declared.Stepped.{Stepped}
 use Rattle.console.specs.Desk.{lineTurn, bytesTurn, Takes}
 use Rattle.console.specs.Framing.{framedBytes, line-framed}
-use Rattle.console.specs.Kept.{Kept, line-keeps}
-use Rattle.lines.specs.Lines.{kept, cut}
+use Rattle.console.specs.SoundDesk.{SoundDesk, line-keeps}
+use Rattle.lines.specs.Lines.{carryLimit, cut}
 use Rattle.lines.specs.Whole.{cut-short}
 use Rattle.lines.specs.Ends.{run, endOf, run-le}
-use Rattle.lines.specs.Held.{keptOf, heldOf, held-carry}
+use Rattle.lines.specs.Held.{carriedOf, heldOf, held-carry}
 use Rattle.feed.specs.Answers.{Console, next, reply}
 use Rattle.feed.specs.Feed.{enough, Feeding, onward, feedOf}
 use Rattle.feed.specs.Laws.{lineFed, onward-onward, going-line, going-tail}
@@ -52,16 +52,16 @@ stored-more {out₀} {out} {w} xs s h =
 pub record Underway (f : Feeding) (piece : List ℕ) (from : ℕ) (held₀ out₀ memory held out : List ℕ) (d : Desk) (u at w : ℕ) : Type 0 where
   pub past : from ≤ at
   pub inside : at ≤ length piece
-  pub used-fits : u ≤ kept
-  pub held-fits : kept ≤ length held
+  pub used-fits : u ≤ carryLimit
+  pub held-fits : carryLimit ≤ length held
   pub held-size : length held ≡ length held₀
   pub stored : Stored out₀ out w
-  pub sound : Kept d
+  pub sound : SoundDesk d
   pub left : f ≡ onward (at - from) (take w out) (feedOf (consoleOf d memory) (take u held) (drop at piece) (length out - w))
 
 pub underway-first :
-    (piece : List ℕ) (from : ℕ) (memory held out : List ℕ) (d : Desk) (u : ℕ) → from ≤ length piece → u ≤ kept →
-    kept ≤ length held → Kept d →
+    (piece : List ℕ) (from : ℕ) (memory held out : List ℕ) (d : Desk) (u : ℕ) → from ≤ length piece → u ≤ carryLimit →
+    carryLimit ≤ length held → SoundDesk d →
     Underway (feedOf (consoleOf d memory) (take u held) (drop from piece) (length out)) piece from held out memory held out d u from 0
 underway-first piece from memory held out d u a b h k =
     let e : from - from ≡ 0 = omega arith in
@@ -82,9 +82,9 @@ underway-first piece from memory held out d u a b h k =
 pub record Turned (d : Desk) (memory bytes out : List ℕ) (w : ℕ) : Type 0 where
   pub result : Stepped
   pub memory′ : List ℕ
-  pub after : List ℕ
+  pub rest′ : List ℕ
   pub same-size : length memory′ ≡ length memory
-  pub takes : Takes (bytesTurn d memory bytes) (midOf w (length out - w) out) result memory′ after
+  pub takes : Takes (bytesTurn d memory bytes) (midOf w (length out - w) out) result memory′ rest′
 
 -- with room and a line end, feeding goes on with the line
 going-on :
@@ -108,7 +108,7 @@ module _ {f : Feeding} {piece : List ℕ} {from : ℕ} {held₀ out₀ memory he
   finish :
       (k used′ : ℕ) (held′ : List ℕ) →
       f ≡ record { console = consoleOf d memory; carry = take used′ held′; taken = at - from + k; answers = take w out ++ [] } →
-      used′ ≤ kept → length held′ ≡ length held → at + k ≤ length piece →
+      used′ ≤ carryLimit → length held′ ≡ length held → at + k ≤ length piece →
       Outcome f piece from held₀ out₀ (record { desk = d; used = used′; next = at + k; written = w }) memory held′ out
   finish k used′ held′ e b l h =
       let n : length (take used′ held′) ≡ used′ = length-take-le used′ held′ (omega (arith, t .held-fits)) in
@@ -137,7 +137,7 @@ module _ {f : Feeding} {piece : List ℕ} {from : ℕ} {held₀ out₀ memory he
   -- no line ends in the rest of the block
   pub turn-tail :
       enough ≤ length out - w → length piece ≤ endOf piece at →
-      Outcome f piece from held₀ out₀ (record { desk = d; used = keptOf u (drop at piece); next = endOf piece at; written = w }) memory
+      Outcome f piece from held₀ out₀ (record { desk = d; used = carriedOf u (drop at piece); next = endOf piece at; written = w }) memory
       (heldOf held u (drop at piece)) out
   unfolding feedOf endOf heldOf
   turn-tail h e =
@@ -148,9 +148,9 @@ module _ {f : Feeding} {piece : List ℕ} {from : ℕ} {held₀ out₀ memory he
       rw (le-ltb (length out - w) enough h)
       (going-tail (consoleOf d memory) (take u held) xs (length out - w) carry-short (omega (arith, length-drop at piece))) in
       rw a
-      (finish (length xs) (keptOf u xs) (heldOf held u xs)
+      (finish (length xs) (carriedOf u xs) (heldOf held u xs)
       (t .left ∙ ap (onward (at - from) (take w out)) g ∙ rw (held-carry held u xs (t .used-fits) (t .held-fits)))
-      (omega arith) (length-sets held u (take (kept - u) xs)) (omega (arith, length-drop at piece, t .inside)))
+      (omega arith) (length-sets held u (take (carryLimit - u) xs)) (omega (arith, length-drop at piece, t .inside)))
 
   -- a line ends in it, and is answered
   pub turn-line :
@@ -190,12 +190,12 @@ module _ {f : Feeding} {piece : List ℕ} {from : ℕ} {held₀ out₀ memory he
       {bytes line held′ : List ℕ} (x : Turned d memory bytes out w) (e : ℕ) → enough ≤ length out - w → e ≡ endOf piece at →
       e < length piece →
       bytes ≡ framedBytes line → line ≡ cut (take u held ++ part piece at (e - at)) → length held′ ≡ length held →
-      Underway f piece from held₀ out₀ (x .memory′) held′ (putMid w (length out - w) out (x .after)) (x .result .desk) 0 (e + 1)
+      Underway f piece from held₀ out₀ (x .memory′) held′ (putMid w (length out - w) out (x .rest′)) (x .result .desk) 0 (e + 1)
       (w + x .result .written)
   turn-step {line = line} {held′ = held′} x e h a i b l k =
       let xs = reply (consoleOf d memory) line in
-      let s : Takes (lineTurn d memory line) (midOf w (length out - w) out) (x .result) (x .memory′) (x .after) =
+      let s : Takes (lineTurn d memory line) (midOf w (length out - w) out) (x .result) (x .memory′) (x .rest′) =
       rw (line-framed d memory line, ← b) (x .takes) in
-      let o : putMid w (length out - w) out (x .after) ≡ sets out w xs =
+      let o : putMid w (length out - w) out (x .rest′) ≡ sets out w xs =
       ap (putMid w (length out - w) out) (s .2) ∙ put-sets out xs w (omega (arith, answer-fits d memory line, t .stored .fits)) in
       rw (s .0, s .1, o, a) (turn-line line held′ h (rw a at i) (rw a at l) k (answer-fits d memory line))

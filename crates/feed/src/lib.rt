@@ -12,10 +12,10 @@ use plan::Plan;
 ghost use Rattle.common.specs.Words.{_≡_, _++_, _-_, _≤_, length, take};
 ghost use Rattle.common.specs.Stores.{part};
 ghost use Rattle.digits.specs.Hex.{mostBytes};
-ghost use Rattle.console.specs.Desk.{Kept, Takes, withState};
+ghost use Rattle.console.specs.Desk.{SoundDesk, Takes, withState};
 ghost use Rattle.console.specs.CallLines.{stateOf};
 ghost use Rattle.console.specs.Framing.{framedBytes};
-ghost use Rattle.lines.specs.Lines.{kept, cut};
+ghost use Rattle.lines.specs.Lines.{carryLimit, cut};
 ghost use Rattle.feed.specs.Feed.{enough};
 ghost use Rattle.feed.specs.Answers.{lastTurn};
 ghost use Rattle.feed.specs.Outcome.{consoleOf, fedFrom, Outcome};
@@ -65,7 +65,7 @@ fn bytes_until(
     end: usize,
     bytes: &mut [u8],
 ) -> usize
-    requires { ⌜ (used ≤ kept) × (kept ≤ length (now held)) × (at ≤ end) × (end ≤ length (now piece))
+    requires { ⌜ (used ≤ carryLimit) × (carryLimit ≤ length (now held)) × (at ≤ end) × (end ≤ length (now piece))
         × (mostBytes ≤ length (now bytes)) ⌝ }
     ensures { λ r. ⌜ (r ≤ mostBytes)
         × (take r (now (bytes .exit)) ≡ framedBytes (cut (take used (now (held .entry)) ++ part (now (piece .entry)) at (end - at)))) ⌝ }
@@ -84,11 +84,11 @@ pub fn feed(
     from: usize,
     out: &mut [u8],
 ) -> Fed
-    requires { ⌜ (used ≤ kept) × (kept ≤ length (now held)) × (from ≤ length (now piece)) × Kept desk ⌝ }
+    requires { ⌜ (used ≤ carryLimit) × (carryLimit ≤ length (now held)) × (from ≤ length (now piece)) × SoundDesk desk ⌝ }
     ensures { λ r. ⌜ Outcome
         (fedFrom (consoleOf desk (now (memory .entry))) (now (held .entry)) used (now (piece .entry)) from (now (out .entry)))
         (now (piece .entry)) from (now (held .entry)) (now (out .entry)) r (now (memory .exit)) (now (held .exit)) (now (out .exit)) ⌝ }
-    ensures { λ r. ⌜ Kept (r .desk) ⌝ }
+    ensures { λ r. ⌜ SoundDesk (r .desk) ⌝ }
 {
     let mut d = desk;
     let state = desk.state;
@@ -157,7 +157,7 @@ pub fn finish(
     used: usize,
     out: &mut [u8],
 ) -> Stepped
-    requires { ⌜ (used ≤ kept) × (kept ≤ length (now held)) × (enough ≤ length (now out)) × Kept desk ⌝ }
+    requires { ⌜ (used ≤ carryLimit) × (carryLimit ≤ length (now held)) × (enough ≤ length (now out)) × SoundDesk desk ⌝ }
     ensures { λ r. ⌜ Takes (lastTurn desk (now (memory .entry)) (take used (now (held .entry)))) (now (out .entry)) r (now (memory .exit))
         (now (out .exit)) ⌝ }
 {

@@ -16,8 +16,8 @@ use Rattle.slots.specs.Slots.{slotAt}
 use Rattle.mailbox.specs.Calls.{receiveLines, found, slotFor, receivingJob}
 use Rattle.running.specs.View.{viewOf}
 use Rattle.plan.specs.Verdicts.{Passed, Stopped, passed-or-stopped}
-use Rattle.history.specs.History.{Call, World, receiveSays, Sends, accepted, Tells, ofMessage, ofGap}
-use Rattle.judge.specs.Accepted.{receive-passed}
+use Rattle.history.specs.History.{Call, World, receiveSays, Sends, acceptedAs, Tells, ofMessage, ofGap}
+use Rattle.judge.specs.Taken.{receive-passed}
 use Rattle.history.specs.Steps.{CanReceive, next, lastAt, receive-finds, receive-ends, receive-refused, Step, sends, stays}
 use Rattle.history.specs.Ground.{valid-at, bytes-inside}
 use Rattle.history.specs.Invariant.{held, bytes, sent-is}
@@ -121,13 +121,13 @@ pub record Ahead (p : Plan) (w : World) (q n : ℕ) : Type 0 where
   pub ahead : w .state .tick .0 < deadlineOf (queueAt p q) row job
 
 pub in-time : {p : Plan} {w w′ : World} {c : Call} {q n : ℕ} {b : List ℕ} → Sends p w c q n b → Step p w c w′ → Ahead p w q n
-in-time {p} {w} {q = q} {n = n} {b = b} (accepted {i = i} {t = t} e) (sends h) =
+in-time {p} {w} {q = q} {n = n} {b = b} (acceptedAs {i = i} {t = t} e) (sends h) =
     record {
       row = i;
       job = t / queueAt p q .period i;
       queue = h .queue;
       sender = h .sender;
-      numbered = sym (sent-is {w = w} h (accepted e) .1);
+      numbered = sym (sent-is {w = w} h (acceptedAs e) .1);
       ahead = omega (arith, h .in-order, h .running);
     }
-in-time {q = q} {n = n} {b = b} (accepted e) (stays quiet) = absurd (quiet .no-send q n b (accepted e))
+in-time {q = q} {n = n} {b = b} (acceptedAs e) (stays quiet) = absurd (quiet .no-send q n b (acceptedAs e))

@@ -16,11 +16,11 @@ use Rattle.running.specs.Calls as running
 use Rattle.running.specs.View.{viewOf}
 use Rattle.mailbox.specs.Calls.{startMemory, sendState, receiveState, found}
 use Rattle.history.specs.Types.{Plan, Sent, Received}
-use Rattle.history.specs.History.{History, start, _then_, send, receive, same, Begins, after, world, sendSays, receiveSays, accepted, SentIn}
-use Rattle.history.specs.History.{Reading, readBy, windowNumbers, Among, ReadToEnd}
+use Rattle.history.specs.History.{History, start, _then_, send, receive, same, Begins, after, world, sendSays, receiveSays, acceptedAs}
+use Rattle.history.specs.History.{SentIn, Reading, readBy, windowNumbers, Among, ReadToEnd}
 use Rattle.history.specs.Ground.{valid-at}
 use Rattle.history.specs.Made.{blank, blank-begins}
-use Rattle.planning.specs.Accepted.{Made}
+use Rattle.planning.specs.AcceptedPlan.{Made}
 use Rattle.history.specs.Resized.{resized}
 use Rattle.history.specs.Least.{Lost}
 use Rattle.history.specs.Theorems.{least, sent-is-read}
@@ -133,7 +133,7 @@ session-ends = record { before = allRead; t = 10; within = same; job = refl; ans
 
 -- So the premises of the theorem on sent messages are met: message 2 is among the readings.
 pub session-sent : SentIn tableA (blank tableA) session 0 2 payload
-session-sent = inl (inl (inl (inl (inr (accepted stored-two)))))
+session-sent = inl (inl (inl (inl (inr (acceptedAs stored-two)))))
 
 pub session-two-read : Among two (readBy tableA (blank tableA) filler session 0 1)
 unfolding sum count upTo last

@@ -82,7 +82,7 @@ history cs = goOn start cs
 
 -- the call is a send on queue q of this payload, and it is accepted as message n
 pub data Sends (p : Plan) (w : World) : Call → ℕ → ℕ → List ℕ → Type 0 where
-  accepted : {q i t n : ℕ} {payload : List ℕ} {s : Slot} → sendSays p w q i t payload ≡ Sent.Stored (message n) s →
+  acceptedAs : {q i t n : ℕ} {payload : List ℕ} {s : Slot} → sendSays p w q i t payload ≡ Sent.Stored (message n) s →
       Sends p w (send q i t payload) q n payload
 
 -- somewhere in the history a send on queue q of this payload was accepted as message n
@@ -171,13 +171,13 @@ pub record ReadToEnd (p : Plan) (m : List ℕ) (H : History) (q k : ℕ) : Type 
 -- ## Accepted calls
 
 -- a send or a receive that is not refused
-pub data Accepted (p : Plan) (w : World) : Call → Type 0 where
+pub data AcceptedCall (p : Plan) (w : World) : Call → Type 0 where
   stores : {q i t n : ℕ} {payload : List ℕ} {s : Slot} → sendSays p w q i t payload ≡ Sent.Stored (message n) s →
-      Accepted p w (send q i t payload)
-  tells : {q t n : ℕ} → Tells (receiveSays p w q t) n → Accepted p w (receive q t)
-  empty : {q t : ℕ} → receiveSays p w q t ≡ Received.Empty → Accepted p w (receive q t)
+      AcceptedCall p w (send q i t payload)
+  tells : {q t n : ℕ} → Tells (receiveSays p w q t) n → AcceptedCall p w (receive q t)
+  empty : {q t : ℕ} → receiveSays p w q t ≡ Received.Empty → AcceptedCall p w (receive q t)
 
 -- every call of the history is such a one
 abbrev pub AllAccepted : Plan → List ℕ → History → Type 0
 AllAccepted p m start = Unit {0}
-AllAccepted p m (H then c) = AllAccepted p m H × Accepted p (world p m H) c
+AllAccepted p m (H then c) = AllAccepted p m H × AcceptedCall p (world p m H) c

@@ -53,7 +53,7 @@ module _ {p : Plan} {m : List ℕ} (begins : Begins p m) where
   start-inv sound q h = record {
     origin = λ n b s. absurd s;
     once = λ n b c s r. absurd s;
-    kept = λ n b s. absurd s;
+    not-older = λ n b s. absurd s;
     fair = λ n pos. absurd (omega (arith, empty n));
   }
     where

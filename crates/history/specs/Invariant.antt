@@ -16,7 +16,7 @@ use Rattle.history.specs.Types.{Plan, Sent}
 use Rattle.slots.specs.Slots.{numberIn, payloadIn}
 use Rattle.slots.specs.SlotLaws.{number-same, number-other, payload-same, payload-other, length-stored}
 use Rattle.mailbox.specs.Calls.{slotFor, runningJob}
-use Rattle.history.specs.History.{Call, send, World, History, _⊑_, same, more, world, Sends, accepted}
+use Rattle.history.specs.History.{Call, send, World, History, _⊑_, same, more, world, Sends, acceptedAs}
 use Rattle.history.specs.Steps.{CanSend, numberAt, sentWorld, next, send-stores, Step, sends, finds, ends, stays, step}
 use Rattle.history.specs.Ground.{valid-at, slots-differ, bytes-inside, number-fits, slot-waits}
 
@@ -47,7 +47,7 @@ pub record Inv (p : Plan) (q : ℕ) (S : ℕ → List ℕ → Type 0) (w : World
   pub origin : (n : ℕ) (b : List ℕ) → S n b → Origin p q w n
   pub once : (n : ℕ) (b c : List ℕ) → S n b → S n c → b ≡ c
   -- its slot holds it, or a message with a higher number
-  pub kept : (n : ℕ) (b : List ℕ) → S n b → n ≤ held p q w n
+  pub not-older : (n : ℕ) (b : List ℕ) → S n b → n ≤ held p q w n
   -- and what a slot holds was sent, and lies in the slot of its number
   pub fair : (n : ℕ) → 1 ≤ held p q w n → S (held p q w n) (bytes p q w n) × (held p q w n % sizeAt p q ≡ n % sizeAt p q)
 
@@ -89,7 +89,7 @@ module _ {p : Plan} {q : ℕ} {S : ℕ → List ℕ → Type 0} {w : World} wher
   untouched {X} {w′} none inv later cell number payload = record {
     origin = λ n b s. origin′ n (inv .origin n b (old n b s));
     once = λ n b c s r. inv .once n b c (old n b s) (old n c r);
-    kept = λ n b s. rw (number n) (inv .kept n b (old n b s));
+    not-older = λ n b s. rw (number n) (inv .not-older n b (old n b s));
     fair = λ n. rw (number n, payload n) (λ h. (inl (inv .fair n h .0), inv .fair n h .1));
   }
     where
@@ -112,7 +112,7 @@ module _ {p : Plan} {q : ℕ} {S : ℕ → List ℕ → Type 0} {w : World} wher
 -- what an accepted send sends
 pub sent-is : {p : Plan} {w : World} {r i t q n : ℕ} {b c : List ℕ} → CanSend p w r i t b → Sends p w (send r i t b) q n c →
     (r ≡ q) × (n ≡ numberAt p w r i t) × (b ≡ c)
-sent-is {p} {w} {r} {i} {t} {q} {n} {b} h (accepted e) = (refl, ap numberStored (sym e ∙ send-stores p w r i t b h), refl)
+sent-is {p} {w} {r} {i} {t} {q} {n} {b} h (acceptedAs e) = (refl, ap numberStored (sym e ∙ send-stores p w r i t b h), refl)
   where
     numberStored : Sent → ℕ
     numberStored (Sent.Stored n s) = n .0
@@ -248,7 +248,7 @@ module _ {p : Plan} (sound : Sound p) {w : World} (shape : Shape p w) where
       own-inv {S} inv = record {
         origin = origin′;
         once = once′;
-        kept = λ n c s. kept′ n c s (ℕ-discrete (n % sizeAt p r) (N % sizeAt p r));
+        not-older = λ n c s. not-older′ n c s (ℕ-discrete (n % sizeAt p r) (N % sizeAt p r));
         fair = λ n. fair′ n (ℕ-discrete (n % sizeAt p r) (N % sizeAt p r));
       }
         where
@@ -268,13 +268,13 @@ module _ {p : Plan} (sound : Sound p) {w : World} (shape : Shape p w) where
           once′ n c d (inr x) (inl u) = absurd (again n d c u x)
           once′ n c d (inr x) (inr y) = sym (sent-is can x .2) ∙ sent-is can y .2
 
-          kept′ : (n : ℕ) (c : List ℕ) → S′ n c → Dec (n % sizeAt p r ≡ N % sizeAt p r) → n ≤ held p r now n
-          kept′ n c (inl s) (yes e) = rw (number-now n e) (rises inv n c s e)
-          kept′ n c (inl s) (no d) = rw (number-still n d) (inv .kept n c s)
-          kept′ n c (inr x) (yes e) = rw (number-now n e) (omega (arith, sent-is can x .1))
-          kept′ n c (inr x) (no d) = absurd (d (ap (λ (y : ℕ). y % sizeAt p r) (sent-is can x .1)))
+          not-older′ : (n : ℕ) (c : List ℕ) → S′ n c → Dec (n % sizeAt p r ≡ N % sizeAt p r) → n ≤ held p r now n
+          not-older′ n c (inl s) (yes e) = rw (number-now n e) (rises inv n c s e)
+          not-older′ n c (inl s) (no d) = rw (number-still n d) (inv .not-older n c s)
+          not-older′ n c (inr x) (yes e) = rw (number-now n e) (omega (arith, sent-is can x .1))
+          not-older′ n c (inr x) (no d) = absurd (d (ap (λ (y : ℕ). y % sizeAt p r) (sent-is can x .1)))
 
           fair′ : (n : ℕ) → Dec (n % sizeAt p r ≡ N % sizeAt p r) → 1 ≤ held p r now n →
               S′ (held p r now n) (bytes p r now n) × (held p r now n % sizeAt p r ≡ n % sizeAt p r)
-          fair′ n (yes e) = rw (number-now n e, payload-now n e) (λ h. (inr (accepted (send-stores p w r i t b can)), sym e))
+          fair′ n (yes e) = rw (number-now n e, payload-now n e) (λ h. (inr (acceptedAs (send-stores p w r i t b can)), sym e))
           fair′ n (no d) = rw (number-still n d, payload-still n d) (λ h. (inl (inv .fair n h .0), inv .fair n h .1))

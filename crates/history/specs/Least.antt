@@ -20,7 +20,7 @@ use Rattle.history.specs.Types.{Plan, Received}
 use Rattle.slots.specs.Slots.{numberIn}
 use Rattle.mailbox.specs.Calls.{found, slotFor, runningJob, receivingJob}
 use Rattle.history.specs.History.{send, receive, World, History, start, _then_, Begins, world, after, receiveSays, Sends}
-use Rattle.history.specs.History.{accepted, SentIn, Tells, stores, tells, AllAccepted}
+use Rattle.history.specs.History.{acceptedAs, SentIn, Tells, stores, tells, AllAccepted}
 use Rattle.history.specs.Steps.{CanSend, CanReceive, numberAt, sentWorld, next, lastAt, readWorld, send-stores, receive-finds, after-send}
 use Rattle.history.specs.Steps.{after-finds, found-tells}
 use Rattle.history.specs.Ground.{valid-at}
@@ -323,7 +323,7 @@ module _ {p : Plan} (sound : Sound p) {m : List ℕ} (begins : Begins p m) (q : 
 
     first-sent : SentIn p m one q n b
     first-sent = inr (subst (λ (y : ℕ). Sends p (world p m start) (send q i t₁ b) q y b) (ap (number (queueAt p q) i) first-job)
-        (accepted (send-stores p (world p m start) q i t₁ b can-first)))
+        (acceptedAs (send-stores p (world p m start) q i t₁ b can-first)))
 
     was-sent : (x : ℕ) → SentIn p m (reading two q t₃ x) q n b
     was-sent zero = inl first-sent

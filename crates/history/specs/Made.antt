@@ -6,7 +6,7 @@ use Rattle.plan.specs.Plan.{queueAt, sizeAt, slotsOf}
 use Rattle.plan.specs.Rules.{soundPlan}
 use Rattle.plan.specs.Sound.{Sound, sound-iff}
 use Rattle.history.specs.Types.{Plan, Started}
-use Rattle.planning.specs.Accepted.{Made}
+use Rattle.planning.specs.AcceptedPlan.{Made}
 use Rattle.mailbox.specs.Calls.{startLines, startAnswer}
 use Rattle.plan.specs.Verdicts.{passed-good}
 use Rattle.history.specs.History.{Begins}

@@ -16,7 +16,7 @@ use Rattle.plan.specs.Sound.{Sound}
 use Rattle.mailbox.specs.Calls.{runningJob, receivingJob}
 use Rattle.running.specs.View.{viewOf}
 use Rattle.history.specs.History.{Call, send, receive, World, sendSays, History, start, _then_, _⊑_, same, more, Begins, world, receiveSays}
-use Rattle.history.specs.History.{Sends, accepted, SentIn, Tells, ofGap, Accepted, tells, empty, readBy, numbers, upFrom, windowNumbers}
+use Rattle.history.specs.History.{Sends, acceptedAs, SentIn, Tells, ofGap, AcceptedCall, tells, empty, readBy, numbers, upFrom, windowNumbers}
 use Rattle.history.specs.Steps.{CanReceive, next, after-finds, receive-moves, Step, sends, finds, ends, stays, step}
 use Rattle.history.specs.Ground.{valid-at, Fitting, slot-waits, div-mono}
 use Rattle.history.specs.Invariant.{Shape, Inv, held, bytes, unsent, sent-is, tick-mono}
@@ -31,7 +31,7 @@ use Rattle.history.specs.Answers.{told-outdated, shown, in-time}
 pub sent-by-its-job : (p : Plan) (w : World) (q i t n : ℕ) (b : List ℕ) (s : Slot) → sendSays p w q i t b ≡ Sent.Stored (message n) s →
     Sender (queueAt p q) i × (number (queueAt p q) i (runningJob (queueAt p q) i t) ≡ n)
     × (releaseOf (queueAt p q) i (runningJob (queueAt p q) i t) ≤ t) × (t < deadlineOf (queueAt p q) i (runningJob (queueAt p q) i t))
-sent-by-its-job p w q i t n b s e = go (accepted e) (step p w (send q i t b))
+sent-by-its-job p w q i t n b s e = go (acceptedAs e) (step p w (send q i t b))
   where
     go : {w′ : World} → Sends p w (send q i t b) q n b → Step p w (send q i t b) w′ →
         Sender (queueAt p q) i × (number (queueAt p q) i (runningJob (queueAt p q) i t) ≡ n)
@@ -59,10 +59,10 @@ module _ {p : Plan} {m : List ℕ} (fitting : Fitting p) (begins : Begins p m) w
   sent-once H c q n b d x s = go x (step p (world p m H) c)
     where
       go : {c : Call} {w′ : World} → Sends p (world p m H) c q n b → Step p (world p m H) c w′ → ⊥
-      go (accepted {i = i} {t = t} e) (sends h) =
+      go (acceptedAs {i = i} {t = t} e) (sends h) =
           unsent (fitting .sound) (shaped begins H) q i t b h (holds begins fitting q (h .queue) H) d
-          (subst (λ (k : ℕ). SentIn p m H q k d) (sent-is {w = world p m H} h (accepted e) .1) s)
-      go (accepted e) (stays quiet) = quiet .no-send q n b (accepted e)
+          (subst (λ (k : ℕ). SentIn p m H q k d) (sent-is {w = world p m H} h (acceptedAs e) .1) s)
+      go (acceptedAs e) (stays quiet) = quiet .no-send q n b (acceptedAs e)
 
   sent-queue : (H : History) (q n : ℕ) (b : List ℕ) → SentIn p m H q n b → q < p .queues
   sent-queue start q n b s = absurd s
@@ -80,7 +80,7 @@ module _ {p : Plan} {m : List ℕ} (fitting : Fitting p) (begins : Begins p m) w
       (b : List ℕ) → S n b → ⊥
   missed {S} {w} {q} {t} inv (missing h l e) b s =
       let n : ℕ = next p w q t in
-      let above : n < held p q w n = lt-of-le-ne (inv .kept n b s) (λ x. e (sym x)) in
+      let above : n < held p q w n = lt-of-le-ne (inv .not-older n b s) (λ x. e (sym x)) in
       having (inv .fair n (omega arith))
       (λ there.
       having (inv .origin n b s)
@@ -220,7 +220,7 @@ module _ {p : Plan} {m : List ℕ} (sound : Sound p) (begins : Begins p m) where
             let all : length soFar ≡ suc (last Q k) - first Q k = omega (arith, so-far can .no-further k, comes-next can, l) in
             so-far can .in-a-row k ∙ ap (upFrom (first Q k)) all
 
-    pub all-read-then-empty : Accepted p (world p m H) (receive q t) → soFar ≡ whole → receiveSays p (world p m H) q t ≡ Received.Empty
+    pub all-read-then-empty : AcceptedCall p (world p m H) (receive q t) → soFar ≡ whole → receiveSays p (world p m H) q t ≡ Received.Empty
     all-read-then-empty (empty e) all = e
     all-read-then-empty (tells s) all =
         let Q : Queue = queueAt p q in

@@ -16,9 +16,9 @@ use Rattle.mailbox.specs.Calls.{steppedOn, runningNumber, receivingJob, nextNum
 use Rattle.mailbox.specs.Outcomes.{sentState, readPast, movedTo, state-clear}
 use Rattle.mailbox.specs.Refused.{send-keeps}
 use Rattle.plan.specs.Verdicts.{Passed, Stopped, passed-good, passed-clear, stopped-refused, passed-or-stopped}
-use Rattle.judge.specs.Accepted.{SendTaken, send-passed, send-passes, ReceiveTaken, receive-passed, receive-passes}
+use Rattle.judge.specs.Taken.{SendTaken, send-passed, send-passes, ReceiveTaken, receive-passed, receive-passes}
 use Rattle.history.specs.History.{Call, send, receive, askNumber, askWayBack, askWindow, askView, World, sendSays, receiveSays, after, Sends}
-use Rattle.history.specs.History.{accepted, reads, readings, Tells, ofMessage, ofGap, Accepted, stores, tells, empty}
+use Rattle.history.specs.History.{acceptedAs, reads, readings, Tells, ofMessage, ofGap, AcceptedCall, stores, tells, empty}
 
 -- ## When a call is accepted
 
@@ -135,7 +135,7 @@ module _ (p : Plan) (w : World) where
         where
           silent : (r : Refusal) → sendSays p w q i t payload ≡ Sent.Refused r → (q′ n : ℕ) (payload′ : List ℕ) →
               Sends p w (send q i t payload) q′ n payload′ → ⊥
-          silent r e q′ n payload′ (accepted d) = stored-or-refused _ _ r (sym d ∙ e)
+          silent r e q′ n payload′ (acceptedAs d) = stored-or-refused _ _ r (sym d ∙ e)
 
   -- a receive that comes to number n, whether its slot holds n or not
   found-read : (s : State) (q t n : ℕ) → steppedOn s q t (found p (w .memory) q n) ≡ readPast s q t n
@@ -216,10 +216,10 @@ module _ (p : Plan) (w : World) where
   step (askView a f) = looks (askView a f) refl (λ r n payload s. elim s [ ]) (λ filler r j. refl)
 
   -- a call that is no accepted send or receive changes nothing
-  pub others-change-nothing : (c : Call) → ¬ Accepted p w c → after p w c ≡ w
+  pub others-change-nothing : (c : Call) → ¬ AcceptedCall p w c → after p w c ≡ w
   others-change-nothing c none = go (step c) none
     where
-      go : {c : Call} {w′ : World} → Step p w c w′ → ¬ Accepted p w c → w′ ≡ w
+      go : {c : Call} {w′ : World} → Step p w c w′ → ¬ AcceptedCall p w c → w′ ≡ w
       go (sends {q = q} {i = i} {t = t} {payload = payload} h) none = absurd (none (stores (send-stores p w q i t payload h)))
       go (finds {q = q} {t = t} h l) none =
           absurd (none (tells (subst (λ (a : Received). Tells a (next p w q t)) (sym (receive-finds p w q t h l)) (found-tells q (next p w q t)))))

@@ -20,7 +20,7 @@ use Rattle.mailbox.specs.Calls.{runningJob, receivingJob, slotFor}
 use Rattle.running.specs.View.{viewOf}
 use Rattle.history.specs.History.{Call, receive, World, History, start, _then_, _⊑_, Begins, world, after, sendSays, receiveSays, history}
 use Rattle.history.specs.History.{goOn}
-use Rattle.history.specs.History.{Sends, SentIn, Tells, readBy, numbers, windowNumbers, AllFair, Among, ReadToEnd, Accepted}
+use Rattle.history.specs.History.{Sends, SentIn, Tells, readBy, numbers, windowNumbers, AllFair, Among, ReadToEnd, AcceptedCall}
 use Rattle.history.specs.Made.{made-fits, loses-one}
 use Rattle.planning.specs.Planning.{Made}
 use Rattle.history.specs.Smaller.{resized, Lost}
@@ -106,7 +106,7 @@ module _ {p : Plan} (made : Made p) {m : List ℕ} (begins : Begins p m) where
       numbers (readBy p m filler H q (receivingJob (queueAt p q) t)) ≡ windowNumbers (queueAt p q) (receivingJob (queueAt p q) t)
   empty-when-all-read = Reading.empty-when-all-read (made-fits made .sound) begins
 
-  pub all-read-then-empty : (filler : List ℕ) (H : History) (q t : ℕ) → Accepted p (world p m H) (receive q t) →
+  pub all-read-then-empty : (filler : List ℕ) (H : History) (q t : ℕ) → AcceptedCall p (world p m H) (receive q t) →
       numbers (readBy p m filler H q (receivingJob (queueAt p q) t)) ≡ windowNumbers (queueAt p q) (receivingJob (queueAt p q) t) →
       receiveSays p (world p m H) q t ≡ Received.Empty
   all-read-then-empty = Reading.all-read-then-empty (made-fits made .sound) begins
@@ -136,7 +136,7 @@ module _ {p : Plan} (made : Made p) {m : List ℕ} (begins : Begins p m) where
 -- ## Refused calls, lookups and idle time make no difference
 
 -- A call that is no accepted send or receive leaves state and memory as they were.
-pub others-change-nothing : (p : Plan) (w : World) (c : Call) → ¬ Accepted p w c → after p w c ≡ w
+pub others-change-nothing : (p : Plan) (w : World) (c : Call) → ¬ AcceptedCall p w c → after p w c ≡ w
 others-change-nothing = Steps.others-change-nothing
 
 -- Two histories on one plan, on any memories, with the same messages sent on queue q, in whatever order and at whatever ticks, and with

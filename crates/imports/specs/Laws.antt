@@ -9,7 +9,7 @@ use Rattle.plan.specs.Refusals.{unnamed}
 use Rattle.plan.specs.Rules.{countsGood}
 use Rattle.plan.specs.Square.{squareOf}
 use Rattle.plan.specs.declared.refusal.Rule.the-variants.{TaskOrQueueCount}
-use Rattle.planning.specs.Accepted.{Made, accepted-made}
+use Rattle.planning.specs.AcceptedPlan.{Made, accepted-made}
 use Rattle.planning.specs.Planning.{refusedPlan, planOf}
 use Rattle.planning.specs.declared.Answer.{Answer as PlanningAnswer}
 use Rattle.steps.specs.declared.Fault.{Fault}

@@ -25,7 +25,7 @@ receivingJob q t = t / receiverPeriod q
 
 -- the tick that lies so many ticks after the release of a job that was released last at tick t, of a task with period P
 abbrev pub ending : ℕ → ℕ → ℕ → ℕ
-ending P after t = due P after (t / P)
+ending P span t = due P span (t / P)
 
 abbrev pub runningDeadline : Queue → ℕ → ℕ → ℕ
 runningDeadline q i t = deadlineOf q i (runningJob q i t)

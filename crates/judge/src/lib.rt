@@ -62,13 +62,13 @@ pub fn judge_start(plan: Plan, memory: &[u8]) -> Verdict
     Verdict::Clear
 }
 
-// The tick that lies `after` ticks behind the release of the job that was released last.
-fn end_of_job(period: u64, after: u64, at: Tick) -> Tick
-    requires { ⌜ (1 ≤ period) × (after ≤ longestPeriod) × (at .0 ≤ lastTick) ⌝ }
-    ensures { λ r. ⌜ r ≡ tick (ending period after (at .0)) ⌝ }
+// The tick that lies `span` ticks behind the release of the job that was released last.
+fn end_of_job(period: u64, span: u64, at: Tick) -> Tick
+    requires { ⌜ (1 ≤ period) × (span ≤ longestPeriod) × (at .0 ≤ lastTick) ⌝ }
+    ensures { λ r. ⌜ r ≡ tick (ending period span (at .0)) ⌝ }
 {
     let job = calendar::job_at(period, at);
-    calendar::deadline_of(period, after, job)
+    calendar::deadline_of(period, span, job)
 }
 
 // Rules 11, 10, 12, 13 of a sender: `before` is the state's tick, and `unsent` the job after the last one that it sent.

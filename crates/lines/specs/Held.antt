@@ -7,13 +7,13 @@ use Rattle.common.specs.Words.{take-append-add, take-at, eq-eqb, ne-eqb, lt-ltb
 use denote.Ref.{RefT, now}
 use Rattle.common.specs.Tests.{lt-or-le}
 use Rattle.common.specs.Stores.{part}
-use Rattle.lines.specs.Lines.{kept, cut}
+use Rattle.lines.specs.Lines.{carryLimit, cut}
 
-abbrev pub keptOf : ℕ → List ℕ → ℕ
-keptOf used xs = min kept (used + length xs)
+abbrev pub carriedOf : ℕ → List ℕ → ℕ
+carriedOf used xs = min carryLimit (used + length xs)
 
 unfoldable pub heldOf : List ℕ → ℕ → List ℕ → List ℕ
-heldOf held used xs = sets held used (take (kept - used) xs)
+heldOf held used xs = sets held used (take (carryLimit - used) xs)
 
 -- the code counts how many bytes it takes
 pub take-least : (n : ℕ) (xs : List ℕ) → take (min n (length xs)) xs ≡ take n xs
@@ -26,8 +26,8 @@ take-least n xs =
 
 -- the carry is then the cut of what it was with that part behind it
 pub held-carry :
-    (held : List ℕ) (used : ℕ) (xs : List ℕ) → used ≤ kept → kept ≤ length held →
-    take (keptOf used xs) (heldOf held used xs) ≡ cut (take used held ++ xs)
+    (held : List ℕ) (used : ℕ) (xs : List ℕ) → used ≤ carryLimit → carryLimit ≤ length held →
+    take (carriedOf used xs) (heldOf held used xs) ≡ cut (take used held ++ xs)
 unfolding heldOf cut
 held-carry held used xs u k = there ∙ sym back
   where
@@ -35,29 +35,29 @@ held-carry held used xs u k = there ∙ sym back
     p = take used held
 
     ys : List ℕ
-    ys = take (kept - used) xs
+    ys = take (carryLimit - used) xs
 
     p-length : length p ≡ used
     p-length = length-take-le used held (omega arith)
 
-    ys-length : length ys ≡ min (kept - used) (length xs)
-    ys-length = length-take (kept - used) xs
+    ys-length : length ys ≡ min (carryLimit - used) (length xs)
+    ys-length = length-take (carryLimit - used) xs
 
-    there : take (keptOf used xs) (sets held used ys) ≡ p ++ ys
+    there : take (carriedOf used xs) (sets held used ys) ≡ p ++ ys
     there =
         rw (sets-eq ys held used (omega (arith, ys-length)))
-        (take-at (p ++ ys) (drop (used + length ys) held) (keptOf used xs) (omega (arith, length-append p ys, p-length, ys-length)))
+        (take-at (p ++ ys) (drop (used + length ys) held) (carriedOf used xs) (omega (arith, length-append p ys, p-length, ys-length)))
 
-    back : take kept (p ++ xs) ≡ p ++ ys
+    back : take carryLimit (p ++ xs) ≡ p ++ ys
     back =
-        let e : kept ≡ length p + (kept - used) = omega (arith, p-length) in
-        ap (λ (n : ℕ). take n (p ++ xs)) e ∙ take-append-add p xs (kept - used)
+        let e : carryLimit ≡ length p + (carryLimit - used) = omega (arith, p-length) in
+        ap (λ (n : ℕ). take n (p ++ xs)) e ∙ take-append-add p xs (carryLimit - used)
 
 -- ## The line
 
 -- a line that no carry begun is not put into the buffer
 abbrev pub joinedOf : ℕ → List ℕ → ℕ
-joinedOf used xs = cond (eqb used 0) 0 (keptOf used xs)
+joinedOf used xs = cond (eqb used 0) 0 (carriedOf used xs)
 
 abbrev pub joinedIn : List ℕ → ℕ → List ℕ → List ℕ
 joinedIn held used xs = cond (eqb used 0) held (heldOf held used xs)
@@ -73,25 +73,25 @@ LineGives held n piece from to r =
     × (r .ptr ≡ cond (ltb 0 n) (held .ptr) (piece .ptr .0, from + piece .ptr .1))
 
 -- the code counts its bytes
-pub cut-take : (n : ℕ) (l : List ℕ) → cut (take n l) ≡ take (min kept n) l
+pub cut-take : (n : ℕ) (l : List ℕ) → cut (take n l) ≡ take (min carryLimit n) l
 unfolding cut
 cut-take n l =
-    ⊎-elim (λ (h : kept < n). let e : min kept n ≡ kept = omega arith in rw e (take-take kept n l (omega arith)))
-    (λ (h : n ≤ kept).
-    let e : min kept n ≡ n = omega arith in
-    rw e (take-all kept (take n l) (omega (arith, length-take n l))))
-    (lt-or-le kept n)
+    ⊎-elim (λ (h : carryLimit < n). let e : min carryLimit n ≡ carryLimit = omega arith in rw e (take-take carryLimit n l (omega arith)))
+    (λ (h : n ≤ carryLimit).
+    let e : min carryLimit n ≡ n = omega arith in
+    rw e (take-all carryLimit (take n l) (omega (arith, length-take n l))))
+    (lt-or-le carryLimit n)
 
 -- it is the carry and the line's part of the block, cut
 pub line-is :
-    (held : List ℕ) (used : ℕ) (xs : List ℕ) → used ≤ kept → kept ≤ length held →
+    (held : List ℕ) (used : ℕ) (xs : List ℕ) → used ≤ carryLimit → carryLimit ≤ length held →
     lineOf (joinedIn held used xs) (joinedOf used xs) xs ≡ cut (take used held ++ xs)
 line-is held used xs u k =
-    ⊎-elim (λ (h : 0 < used). rw (ne-eqb used 0 (omega arith), lt-ltb 0 (keptOf used xs) (omega arith)) (held-carry held used xs u k))
+    ⊎-elim (λ (h : 0 < used). rw (ne-eqb used 0 (omega arith), lt-ltb 0 (carriedOf used xs) (omega arith)) (held-carry held used xs u k))
     (λ (h : used ≤ 0). let e : used ≡ 0 = omega arith in rw e)
     (lt-or-le 0 used)
 
-pub joined-le : (used : ℕ) (xs : List ℕ) → joinedOf used xs ≤ kept
+pub joined-le : (used : ℕ) (xs : List ℕ) → joinedOf used xs ≤ carryLimit
 joined-le used xs =
     ⊎-elim (λ (h : 0 < used). rw (ne-eqb used 0 (omega arith)) (omega arith)) (λ (h : used ≤ 0). rw (eq-eqb used 0 (omega arith)) (omega arith))
     (lt-or-le 0 used)
@@ -99,6 +99,6 @@ joined-le used xs =
 pub joined-length : (held : List ℕ) (used : ℕ) (xs : List ℕ) → length (joinedIn held used xs) ≡ length held
 unfolding heldOf
 joined-length held used xs =
-    ⊎-elim (λ (h : 0 < used). rw (ne-eqb used 0 (omega arith)) (length-sets held used (take (kept - used) xs)))
+    ⊎-elim (λ (h : 0 < used). rw (ne-eqb used 0 (omega arith)) (length-sets held used (take (carryLimit - used) xs)))
     (λ (h : used ≤ 0). rw (eq-eqb used 0 (omega arith)))
     (lt-or-le 0 used)

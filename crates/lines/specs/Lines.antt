@@ -6,11 +6,11 @@ abbrev pub lineFeed : ℕ
 lineFeed = 10
 
 -- "over 100 digits" is answered in one way, so of a line 101 bytes are enough: the last of them says that it was longer
-abbrev pub kept : ℕ
-kept = 101
+abbrev pub carryLimit : ℕ
+carryLimit = 101
 
 unfoldable pub cut : List ℕ → List ℕ
-cut l = take kept l
+cut l = take carryLimit l
 
 -- what a text leaves: the carry, which is the line that has not ended, and the lines that ended in it
 pub record Fed : Type 0 where

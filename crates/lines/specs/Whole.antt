@@ -2,7 +2,7 @@
 use Rattle.common.specs.Words.{ℕ, zero, suc, _≤_, arith, Bool, true, false, cond, List, [], _∷_, _++_, map, append-assoc, append-nil, _≡_}
 use Rattle.common.specs.Words.{refl}
 use Rattle.common.specs.Words.{sym, ap, _∙_, eqb, ne-eqb, length, take, length-take, take-all}
-use Rattle.lines.specs.Lines.{lineFeed, kept, cut, fed, ended}
+use Rattle.lines.specs.Lines.{lineFeed, carryLimit, cut, fed, ended}
 pub use Rattle.lines.specs.Lines.{begun}
 unfoldable pub use Rattle.lines.specs.Lines.{pieces, counted, linesOf}
 
@@ -16,15 +16,15 @@ take-append (suc n) (x ∷ c) d = ap (λ (l : List ℕ). x ∷ l) (take-append n
 -- a cut of what follows a cut is a cut of the whole
 pub cut-append : (c d : List ℕ) → cut (cut c ++ d) ≡ cut (c ++ d)
 unfolding cut
-cut-append c d = take-append kept c d
+cut-append c d = take-append carryLimit c d
 
-pub cut-short : (c : List ℕ) → length c ≤ kept → cut c ≡ c
+pub cut-short : (c : List ℕ) → length c ≤ carryLimit → cut c ≡ c
 unfolding cut
-cut-short c h = take-all kept c h
+cut-short c h = take-all carryLimit c h
 
-pub cut-length : (c : List ℕ) → length (cut c) ≤ kept
+pub cut-length : (c : List ℕ) → length (cut c) ≤ carryLimit
 unfolding cut
-cut-length c = rw (length-take kept c) (omega arith)
+cut-length c = rw (length-take carryLimit c) (omega arith)
 
 cut-none : cut [] ≡ []
 unfolding cut

@@ -3,12 +3,12 @@
 // bytes in one way, so 101 bytes are kept of a line and the rest is let go.
 ghost use Rattle.common.specs.Words.{_≡_, _+_, _-_, _≤_, min, length};
 ghost use Rattle.common.specs.Stores.{part};
-ghost use Rattle.lines.specs.Lines.{kept};
+ghost use Rattle.lines.specs.Lines.{carryLimit};
 ghost use Rattle.lines.specs.Ends.{stride, feedIn, endOf};
 ghost use Rattle.lines.specs.Strides.{skipOf};
-ghost use Rattle.lines.specs.Held.{keptOf, heldOf, joinedOf, joinedIn, LineGives};
+ghost use Rattle.lines.specs.Held.{carriedOf, heldOf, joinedOf, joinedIn, LineGives};
 
-pub const KEPT: usize = 101;
+pub const CARRY_LIMIT: usize = 101;
 
 const LINE_FEED: u8 = 10;
 
@@ -68,10 +68,10 @@ fn least(a: usize, b: usize) -> usize
 
 // Puts a part of a line behind the carry, as far as it is kept, and answers the carry's new length.
 pub fn keep(held: &mut [u8], used: usize, xs: &[u8]) -> usize
-    requires { ⌜ (used ≤ kept) × (kept ≤ length (now held)) ⌝ }
-    ensures { λ r. ⌜ (r ≡ keptOf used (now (xs .entry))) × (now (held .exit) ≡ heldOf (now (held .entry)) used (now (xs .entry))) ⌝ }
+    requires { ⌜ (used ≤ carryLimit) × (carryLimit ≤ length (now held)) ⌝ }
+    ensures { λ r. ⌜ (r ≡ carriedOf used (now (xs .entry))) × (now (held .exit) ≡ heldOf (now (held .entry)) used (now (xs .entry))) ⌝ }
 {
-    let n = least(KEPT - used, xs.len());
+    let n = least(CARRY_LIMIT - used, xs.len());
     for k in 0..n {
         held[used + k] = xs[k];
     }
@@ -81,7 +81,7 @@ pub fn keep(held: &mut [u8], used: usize, xs: &[u8]) -> usize
 // Where the line that ends at `to` was begun by a carry, puts its part of this block behind the carry; answers how many bytes of the
 // line stand in the buffer then, none where the whole line lies in the block.
 pub fn join(held: &mut [u8], used: usize, piece: &[u8], from: usize, to: usize) -> usize
-    requires { ⌜ (used ≤ kept) × (kept ≤ length (now held)) × (from ≤ to) × (to ≤ length (now piece)) ⌝ }
+    requires { ⌜ (used ≤ carryLimit) × (carryLimit ≤ length (now held)) × (from ≤ to) × (to ≤ length (now piece)) ⌝ }
     ensures { λ r. ⌜ (r ≡ joinedOf used (part (now (piece .entry)) from (to - from)))
         × (now (held .exit) ≡ joinedIn (now (held .entry)) used (part (now (piece .entry)) from (to - from))) ⌝ }
 {
@@ -99,6 +99,6 @@ pub fn line_of<'a>(held: &'a [u8], n: usize, piece: &'a [u8], from: usize, to: u
     if 0 < n {
         return &held[..n];
     }
-    let end = from + least(KEPT, to - from);
+    let end = from + least(CARRY_LIMIT, to - from);
     &piece[from..end]
 }

@@ -8,7 +8,7 @@ use Rattle.plan.specs.Says.{Said}
 use Rattle.mailbox.specs.Calls.{receivingJob, sentSays}
 use Rattle.frames.specs.Answers.{lineOf}
 use Rattle.console.specs.Desk.{sentBytes, filler, receivedBytes}
-use Rattle.history.specs.History.{send, receive, World, sendSays, receiveSays, Sends, accepted, readings, reads}
+use Rattle.history.specs.History.{send, receive, World, sendSays, receiveSays, Sends, acceptedAs, readings, reads}
 use Rattle.logs.specs.Types.{Tick, Plan, Sent, Received, Frame}
 use Rattle.logs.specs.Said.{frameIn, payloadOf, codeIn, saidIn, receivedTold}
 use Rattle.logs.specs.Log.{Entry, Log, Stores, StoredIn, asks, tells, linesTo, Ends, EndedIn}
@@ -119,14 +119,14 @@ module _ (p : Plan) (w : World) (e : Entry) (q i : ℕ) (t : Tick) (asked : fram
           let same : q ≡ r = cc in
           subst (λ (x : ℕ). Sends p w (send q i (t .0) (payloadOf (e .line))) x n b) same
           (subst (λ (x : List ℕ). Sends p w (send q i (t .0) (payloadOf (e .line))) q n x) (s .carried)
-          (accepted (d ∙ ap (λ (x : ℕ). Sent.Stored (message x) at) v)))
+          (acceptedAs (d ∙ ap (λ (x : ℕ). Sent.Stored (message x) at) v)))
         where
           headOf : List ℕ → ℕ
           headOf [] = 0
           headOf (x ∷ xs) = x
 
       from : {r n : ℕ} {b : List ℕ} → Sends p w (send q i (t .0) (payloadOf (e .line))) r n b → Stores r n b e
-      from (accepted {s = at} h) = record {
+      from (acceptedAs {s = at} h) = record {
         task = i;
         tick = t;
         slot = at .0;

@@ -2,7 +2,7 @@
 use Rattle.common.specs.Words.{ℕ, arith, true, false, List, [], _∷_, _++_, append-assoc, append-nil, map, _⊎_, inl, inr, _↔_, _≡_, refl}
 use Rattle.common.specs.Words.{sym, ap, subst, _∙_}
 use Rattle.plan.specs.Plan.{queueAt}
-use Rattle.planning.specs.Accepted.{Made}
+use Rattle.planning.specs.AcceptedPlan.{Made}
 use Rattle.mailbox.specs.Calls.{fresh, startAnswer, startMemory, sendAnswer, sendState, sendMemory, look, receiveState, receivingJob}
 use Rattle.frames.specs.Answers.{sizesBytes, badBytes, lineOf}
 use Rattle.console.specs.Desk.{Turn, says, planned, withRun, withState, sentBytes, filler, receivedBytes, lineTurn}

@@ -1,6 +1,6 @@
 -- A session as a history: what it means that the lines since an accepted 03 are one, and that the log shows what its calls came to.
 use Rattle.common.specs.Words.{ℕ, true, List, [], _∷_, _++_, map, _↔_, _≡_}
-use Rattle.planning.specs.Accepted.{Made}
+use Rattle.planning.specs.AcceptedPlan.{Made}
 use Rattle.frames.specs.Answers.{messageBytes, gapBytes, lineOf}
 use Rattle.console.specs.Desk.{planned, filler}
 use Rattle.feed.specs.Answers as feed

@@ -2,7 +2,7 @@
 use Rattle.common.specs.Words.{ℕ, _<_, arith, Bool, true, false, cond, List, [], _∷_, _++_, map, inl, inr, _↔_, _≡_, refl, sym, ap, subst}
 use Rattle.common.specs.Words.{_∙_}
 use Rattle.common.specs.Tests.{clash}
-use Rattle.planning.specs.Accepted.{Made}
+use Rattle.planning.specs.AcceptedPlan.{Made}
 use Rattle.mailbox.specs.Calls.{startAnswer}
 use Rattle.console.specs.Desk.{Turn, bad, planned, withRun, startTurn, planTurn, goTurn, withState, filler, lineTurn}
 use Rattle.feed.specs.Answers as feed

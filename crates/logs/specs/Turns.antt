@@ -2,7 +2,7 @@
 -- changes no byte of memory.
 use Rattle.common.specs.Words.{ℕ, Bool, true, false, cond, List, [], _≡_, refl, sym, subst, leb}
 use Rattle.plan.specs.Limits.{taskLimit, queueLimit}
-use Rattle.planning.specs.Accepted.{Made, accepted-made}
+use Rattle.planning.specs.AcceptedPlan.{Made, accepted-made}
 use Rattle.mailbox.specs.Calls.{fresh, startAnswer, startMemory}
 use Rattle.frames.specs.Answers.{sizesBytes}
 use Rattle.console.specs.Desk.{Turn, silent, says, bad, rowTurn, withTask, withQueue, squareOf, planned, withRun, startTurn, planTurn, goTurn}

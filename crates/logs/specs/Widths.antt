@@ -14,11 +14,11 @@ use Rattle.plan.specs.Rules.{badTask, badQueue}
 use Rattle.plan.specs.Refusals.{Line}
 use Rattle.plan.specs.Verdicts.{Passed, Stopped, passed-or-stopped, passed-good, stopped-refused}
 use Rattle.tables.specs.Table.{tabled}
-use Rattle.planning.specs.Accepted.{plan-lines}
+use Rattle.planning.specs.AcceptedPlan.{plan-lines}
 use Rattle.planning.specs.Planning.{longQueue, firstLines, tableLines, refusedPlan, acceptedPlan, planOf}
 use Rattle.mailbox.specs.Calls.{startLines, startAnswer, sendLines, sendAnswer, receiveLines, look, runningJob, receivingJob}
 use Rattle.mailbox.specs.Refused.{start-refused, send-refused, receive-refused}
-use Rattle.history.specs.History.{World, send, accepted, ofGap}
+use Rattle.history.specs.History.{World, send, acceptedAs, ofGap}
 use Rattle.history.specs.Steps.{Step, sends, stays, step, send-stores, numberAt, next}
 use Rattle.history.specs.Ground.{valid-at}
 use Rattle.history.specs.Answers.{Answered, finding, missing, ended, refused, answered-so, told, told-window}
@@ -91,7 +91,7 @@ module _ (s : State) (p : Plan) (m : List ℕ) where
     where
       go : {w′ : World} → sendAnswer s p m q i t payload ≡ Sent.Stored n at → Step p w (send q i t payload) w′ →
           SentFits (Sent.Stored n at)
-      go e (stays quiet) = absurd (quiet .no-send q (n .0) payload (accepted e))
+      go e (stays quiet) = absurd (quiet .no-send q (n .0) payload (acceptedAs e))
       go e (sends can) =
           let sound : Sound p = can .ground .sound in
           subst SentFits (sym (send-stores p w q i t payload can) ∙ e) (

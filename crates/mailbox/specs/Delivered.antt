@@ -10,7 +10,7 @@ use Rattle.plan.specs.Limits.{lastTick, payloadBytes, slotBytes}
 use Rattle.plan.specs.Plan.{queueAt, slotsOf}
 use Rattle.plan.specs.Sound.{sound-iff, usable}
 use Rattle.plan.specs.Verdicts.{verdict, by-clear, Passed, passed-clear}
-use Rattle.judge.specs.Accepted.{SendTaken, send-taken}
+use Rattle.judge.specs.Taken.{SendTaken, send-taken}
 use Rattle.slots.specs.Slots.{slotAt, numberIn, payloadIn, stored}
 use Rattle.slots.specs.SlotLaws.{number-same, payload-same, length-stored, number-cleared}
 use Rattle.running.specs.Calls as running

@@ -30,8 +30,8 @@ impl State {
             window::nothing(),
         );
         let answer = done.answer;
-        let after = done.tick;
-        self.tick = after;
+        let tick = done.tick;
+        self.tick = tick;
         Receiving {
             answer,
             state: self,

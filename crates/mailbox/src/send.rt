@@ -39,8 +39,8 @@ impl State {
             before,
         );
         let answer = done.answer;
-        let after = done.tick;
-        self.tick = after;
+        let tick = done.tick;
+        self.tick = tick;
         Sending {
             answer,
             state: self,

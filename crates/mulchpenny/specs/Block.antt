@@ -6,8 +6,8 @@ use Rattle.lines.specs.Lines.{fed}
 use Rattle.mulchpenny.specs.declared.Turn.{Turn}
 
 -- from the console w and the carry c, the text x comes to this console and this carry
-pub record Comes (w : Console) (c x : List ℕ) (after : Console) (carry : List ℕ) : Type 0 where
-  pub console : after ≡ consoleAfter w (fed c x .lines)
+pub record Comes (w : Console) (c x : List ℕ) (w′ : Console) (carry : List ℕ) : Type 0 where
+  pub console : w′ ≡ consoleAfter w (fed c x .lines)
   pub carried : carry ≡ fed c x .carry
 
 pub record BlockGives (w : Console) (c piece : List ℕ) (t : Turn) (memory held : List ℕ) : Type 0 where

@@ -5,10 +5,10 @@ use blocks::Stream;
 use console::Desk;
 use plan::Plan;
 ghost use Rattle.common.specs.Words.{_≡_, _<_, _≤_, false, length, take};
-ghost use Rattle.console.specs.Desk.{Kept};
+ghost use Rattle.console.specs.Desk.{SoundDesk};
 ghost use Rattle.feed.specs.Feed.{enough};
 ghost use Rattle.feed.specs.Answers.{consoleOf};
-ghost use Rattle.lines.specs.Lines.{kept};
+ghost use Rattle.lines.specs.Lines.{carryLimit};
 ghost use Rattle.mulchpenny.specs.Block.{BlockGives};
 
 const MEMORY: usize = Plan::MOST_SLOTS * Plan::SLOT_BYTES;
@@ -32,10 +32,10 @@ fn answer_block(
     out: &mut [u8],
     stream: Stream,
 ) -> Turn
-    requires { ⌜ (used ≤ kept) × (kept ≤ length (now held)) × (enough ≤ length (now out)) × Kept desk ⌝ }
+    requires { ⌜ (used ≤ carryLimit) × (carryLimit ≤ length (now held)) × (enough ≤ length (now out)) × SoundDesk desk ⌝ }
     ensures { λ r. ⌜ BlockGives (consoleOf desk (now (memory .entry))) (take used (now (held .entry))) (now (piece .entry))
         r (now (memory .exit)) (now (held .exit)) ⌝ }
-    ensures { λ r. ⌜ (r .used ≤ kept) × Kept (r .desk) × (r .stream .left ≡ stream .left) ⌝ }
+    ensures { λ r. ⌜ (r .used ≤ carryLimit) × SoundDesk (r .desk) × (r .stream .left ≡ stream .left) ⌝ }
 {
     let mut d = desk;
     let mut u = used;
@@ -73,7 +73,7 @@ fn answer_last(
     out: &mut [u8],
     stream: Stream,
 )
-    requires { ⌜ (used ≤ kept) × (kept ≤ length (now held)) × (enough ≤ length (now out)) × Kept desk ⌝ }
+    requires { ⌜ (used ≤ carryLimit) × (carryLimit ≤ length (now held)) × (enough ≤ length (now out)) × SoundDesk desk ⌝ }
 {
     let s = feed::finish(desk, memory, held, used, out);
     if s.written <= out.len() {
@@ -83,7 +83,7 @@ fn answer_last(
 
 // Answers the whole input, block by block, until the stream is closed.
 fn answer_all(memory: &mut [u8], held: &mut [u8], piece: &mut [u8], out: &mut [u8]) -> Stream
-    requires { ⌜ (kept ≤ length (now held)) × (0 < length (now piece)) × (enough ≤ length (now out)) ⌝ }
+    requires { ⌜ (carryLimit ≤ length (now held)) × (0 < length (now piece)) × (enough ≤ length (now out)) ⌝ }
     ensures { λ r. ⌜ r .is_open ≡ false ⌝ }
 {
     let mut d = Desk::new();
@@ -107,7 +107,7 @@ fn answer_all(memory: &mut [u8], held: &mut [u8], piece: &mut [u8], out: &mut [u
 
 fn main() {
     let mut memory = [0u8; MEMORY];
-    let mut held = [0u8; lines::KEPT];
+    let mut held = [0u8; lines::CARRY_LIMIT];
     let mut piece = io::large_buffer();
     let mut out = io::large_buffer();
     answer_all(&mut memory, &mut held, &mut piece, &mut out);

@@ -6,16 +6,16 @@ ghost use Rattle.model.specs.Model.{due, released, receiverPeriod, deadlineOf};
 ghost use Rattle.plan.specs.Limits.{longestPeriod, lastTick};
 ghost use Rattle.plan.specs.Plan.{queueAt, Usable};
 
-// Whether the tick that lies `after` ticks behind a job's release is past the last tick. Jobs past it are told apart first, since a
+// Whether the tick that lies `span` ticks behind a job's release is past the last tick. Jobs past it are told apart first, since a
 // period is at least 1: what is reckoned then fits.
-fn past_last(period: u64, after: u64, job: Job) -> bool
-    requires { ⌜ (1 ≤ period) × (period ≤ longestPeriod) × (after ≤ longestPeriod) ⌝ }
-    ensures { λ r. ⌜ r ≡ ltb lastTick (due period after (job .0)) ⌝ }
+fn past_last(period: u64, span: u64, job: Job) -> bool
+    requires { ⌜ (1 ≤ period) × (period ≤ longestPeriod) × (span ≤ longestPeriod) ⌝ }
+    ensures { λ r. ⌜ r ≡ ltb lastTick (due period span (job .0)) ⌝ }
 {
     if Plan::LAST_TICK < job.0 {
         return true;
     }
-    let at = calendar::deadline_of(period, after, job);
+    let at = calendar::deadline_of(period, span, job);
     Plan::LAST_TICK < at.0
 }
 

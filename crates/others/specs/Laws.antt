@@ -11,7 +11,7 @@ use Rattle.steps.specs.Lifted.{first, firstKind, secondKind, size}
 use Rattle.steps.specs.Laws.{Moved, Moves, moved-on, moves-any, moved-any, moved-then, moved-less, moves-the, went, goes-none}
 use Rattle.phrases.specs.Phrases.{path}
 use Rattle.phrases.specs.Laws.{path-moves}
-use Rattle.rows.specs.Rows.{Store, keptAll}
+use Rattle.rows.specs.Rows.{Store, withRows}
 use Rattle.rows.specs.declared.Reading.{Reading}
 use Rattle.rows.specs.Said.{Said, Rule, quiet, _⨟_}
 use Rattle.rows.specs.States.{State, state, reading, does}
@@ -59,7 +59,7 @@ module _ (outside : Bool) (w : List Fault) where
           rw (any-one k ts h, h, worst-append x (notedAt w (k .kind)) (passing outside (waits (On (k ∷ ts))) qs ts .notes))
 
   pub passing-off : (s : State) → lastKind (firstKind (s .went)) ≡ true → s ≡ does s (passing outside w)
-  unfolding does passing worst keptAll
+  unfolding does passing worst withRows
   passing-off s =
       by-went (λ (s : State). lastKind (firstKind (s .went)) ≡ true → s ≡ does s (passing outside w)) go (λ f qs x t h. refl) s
     where

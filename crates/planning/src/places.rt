@@ -59,7 +59,7 @@ fn places_of(queues: usize, sizes: [usize; Plan::QUEUES]) -> [usize; Plan::QUEUE
     let mut out = [0; Plan::QUEUES];
     let mut sum: usize = 0;
     for q in 0..Plan::QUEUES {
-        out[q] = tables::kept(q < queues, sum as u64) as usize;
+        out[q] = tables::value_within(q < queues, sum as u64) as usize;
         sum += sizes[q];
     }
     out

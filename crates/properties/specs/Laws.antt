@@ -20,7 +20,7 @@ use Rattle.phrases.specs.Laws.{nothing-moves}
 use Rattle.times.specs.Times.{Formed, formed}
 use Rattle.times.specs.Sums.{timeFrom}
 use Rattle.times.specs.Laws.{time-moves}
-use Rattle.rows.specs.Rows.{Store, keptAll}
+use Rattle.rows.specs.Rows.{Store, withRows}
 use Rattle.rows.specs.Said.{Said, said, Rule, quiet, _⨟_, optionally, repeat}
 use Rattle.rows.specs.States.{State, state, does}
 use Rattle.rows.specs.Laws.{MovesOn, moved-onward, moves-quiet, moves-optionally, moves-repeat, advances-on, by-went, does-then, does-on, does-off}
@@ -111,7 +111,7 @@ module _ (q : ℕ) where
       state (formAt q (s .went) .went ⟫ the SEMICOLON) (set (s .props) q (formAt q (s .went) .value))
       (worse (s .fault) (worst noFault (formAt q (s .went) .notes))) (s .store)
       ≡ does s (owned q)
-  unfolding does owned keptAll
+  unfolding does owned withRows
   owned-first s =
       by-went (λ (s : State). holds (λ ts. true) (s .went) ≡ true → getD (s .props) q 0 ≡ 0 →
       state (formAt q (s .went) .went ⟫ the SEMICOLON) (set (s .props) q (formAt q (s .went) .value))
@@ -123,7 +123,7 @@ module _ (q : ℕ) where
       state (formAt q (s .went) .went ⟫ the SEMICOLON) (s .props)
       (worse (worse (s .fault) (fault 20 (first (s .went) .start) secondTime)) (worst noFault (formAt q (s .went) .notes)))
       (s .store) ≡ does s (owned q)
-  unfolding does owned worst keptAll
+  unfolding does owned worst withRows
   owned-second s =
       by-went (λ (s : State). holds (λ ts. true) (s .went) ≡ true → (getD (s .props) q 0 ≡ 0 → ⊥) →
       state (formAt q (s .went) .went ⟫ the SEMICOLON) (s .props)
@@ -136,14 +136,14 @@ module _ (q : ℕ) where
 module _ (c : ℕ) where
   pub skipped-plain : (s : State) → (c ≡ ofProcess → ⊥) →
       state (s .went ⟫ association) (s .props) (s .fault) (s .store) ≡ does s (skippedIn c)
-  unfolding does skippedIn noteIn worst keptAll
+  unfolding does skippedIn noteIn worst withRows
   skipped-plain s n =
       by-went (λ (s : State). state (s .went ⟫ association) (s .props) (s .fault) (s .store) ≡ does s (skippedIn c))
       (λ ts qs x t. rw (ne-eqb c ofProcess n)) (λ f qs x t. refl) s
 
   pub skipped-other : (s : State) → timing ≤ propertyAt (s .went) →
       state (s .went ⟫ association) (s .props) (s .fault) (s .store) ≡ does s (skippedIn c)
-  unfolding does skippedIn noteIn worst keptAll
+  unfolding does skippedIn noteIn worst withRows
   skipped-other s =
       by-went (λ (s : State). timing ≤ propertyAt (s .went) →
       state (s .went ⟫ association) (s .props) (s .fault) (s .store) ≡ does s (skippedIn c))
@@ -158,7 +158,7 @@ module _ (c : ℕ) where
   pub skipped-noted : (s : State) → c ≡ ofProcess → propertyAt (s .went) < timing →
       state (s .went ⟫ association) (s .props) (worse (s .fault) (fault 20 (first (s .went) .start) fromOutside)) (s .store)
       ≡ does s (skippedIn c)
-  unfolding does skippedIn noteIn worst keptAll
+  unfolding does skippedIn noteIn worst withRows
   skipped-noted s e =
       by-went (λ (s : State). propertyAt (s .went) < timing →
       state (s .went ⟫ association) (s .props) (worse (s .fault) (fault 20 (first (s .went) .start) fromOutside)) (s .store)

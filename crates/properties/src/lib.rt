@@ -173,11 +173,11 @@ fn owned(text: &[u8], reading: Reading, property: usize) -> Reading
     );
     let formed = f.went;
     let fault = f.fault;
-    let after = symbol(text, formed, kinds::SEMICOLON);
+    let closed = symbol(text, formed, kinds::SEMICOLON);
     if props[property] == 0 {
         props[property] = f.value;
         return Reading {
-            went: after,
+            went: closed,
             props,
             count: reading.count,
             fault: worse(before, fault),
@@ -189,7 +189,7 @@ fn owned(text: &[u8], reading: Reading, property: usize) -> Reading
         why: SECOND_TIME,
     };
     Reading {
-        went: after,
+        went: closed,
         props,
         count: reading.count,
         fault: worse(worse(before, again), fault),
@@ -202,13 +202,13 @@ fn skipped_in(text: &[u8], reading: Reading, of: usize, property: usize) -> Read
     ensures { λ r. ⌜ ((m : List ℕ) → stateOf (now (text .entry)) r m ≡ does (stateOf (now (text .entry)) reading m) (skippedIn of)) ⌝ }
 {
     let went = reading.went;
-    let after = on(reading, association(text, went));
+    let skipped = on(reading, association(text, went));
     if of != OF_PROCESS {
-        return after;
+        return skipped;
     }
     if property < TIMING {
         return noted(
-            after,
+            skipped,
             Fault {
                 number: 20,
                 place: start_of(text, went),
@@ -216,7 +216,7 @@ fn skipped_in(text: &[u8], reading: Reading, of: usize, property: usize) -> Read
             },
         );
     }
-    after
+    skipped
 }
 
 // One association, by where it stands.

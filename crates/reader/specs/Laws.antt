@@ -10,7 +10,7 @@ use Rattle.steps.specs.declared.Fault.{Fault}
 use Rattle.steps.specs.declared.Went.{Went}
 use Rattle.steps.specs.Faults.{noFault, worse, worst}
 use Rattle.steps.specs.Lifted.{lift}
-use Rattle.rows.specs.Rows.{rowWords, store, keptAll}
+use Rattle.rows.specs.Rows.{rowWords, store, withRows}
 use Rattle.rows.specs.declared.Reading.{Reading}
 use Rattle.rows.specs.Said.{noProps}
 use Rattle.rows.specs.States.{State, stateOf, does, begun}
@@ -26,7 +26,7 @@ use Rattle.reader.specs.declared.Read.{Read}
 use Rattle.reader.specs.declared.Answer.the-variants.{Sound, Refused, NoRoom}
 use Rattle.reader.specs.Reader.{mostBytes, mostRows, treeRoom, rowsRoom, plainText, readFrom, endFaults, longFaults}
 use Rattle.reader.specs.Reader.{faultsIn, refusal, noTable, answered, answerBy, answerRead, answerPlain, readOf, enough, answer, Fitting}
-use Rattle.reader.specs.Kept.{Held, kept-held}
+use Rattle.reader.specs.StoredRows.{Held, stored-held}
 
 -- ## What ends a reading
 
@@ -69,7 +69,7 @@ module _ (p : List ℕ) (r : Reading) (m n : List ℕ) (e : ended p r m n) where
   unfolding does readFrom
   read-fault = ap (λ (s : State). s .fault) e
 
-  read-store : store n (r .count) ≡ keptAll (store m 0) (readFrom p .rows)
+  read-store : store n (r .count) ≡ withRows (store m 0) (readFrom p .rows)
   unfolding does readFrom
   read-store = ap (λ (s : State). s .store) e
 
@@ -77,7 +77,7 @@ module _ (p : List ℕ) (r : Reading) (m n : List ℕ) (e : ended p r m n) where
     read-held : Held m 0 (readFrom p .rows) (store n (r .count))
     unfolding readFrom
     read-held =
-        rw (read-store) (kept-held (readFrom p .rows) m 0 (whole-wide noProps (from p 0) .all) (omega (arith, room p, l)))
+        rw (read-store) (stored-held (readFrom p .rows) m 0 (whole-wide noProps (from p 0) .all) (omega (arith, room p, l)))
 
     pub read-rows : rowsIn (r .count) n ≡ readFrom p .rows
     unfolding rowsIn

@@ -1,6 +1,6 @@
 -- The pages of this crate's definitions and laws.
 pub mod Reader
-pub mod Kept
+pub mod StoredRows
 pub mod Laws
 pub mod First
 pub mod Same

@@ -18,11 +18,11 @@ use Rattle.report.specs.Places.{past, first, behind}
 -- ## One line
 
 -- the line feed behind digits
-pub line-at : (bytes out before after : List ℕ) (i j : ℕ) →
-    before ≡ sets out i (digits bytes) → after ≡ sets before j (10 ∷ []) →
-    i + 2 * length bytes ≡ j → after ≡ sets out i (lineOf bytes)
+pub line-at : (bytes out before out′ : List ℕ) (i j : ℕ) →
+    before ≡ sets out i (digits bytes) → out′ ≡ sets before j (10 ∷ []) →
+    i + 2 * length bytes ≡ j → out′ ≡ sets out i (lineOf bytes)
 unfolding lineOf
-line-at bytes out before after i j e f g =
+line-at bytes out before out′ i j e f g =
     let z : i + length (digits bytes) ≡ j = omega (arith, digits-length bytes, g) in
     f ∙ rw (e, sets-append (digits bytes) (10 ∷ []) out i, z)
 
@@ -35,13 +35,13 @@ pieces a b c out o p q i j k e f g x y =
     rw (← append-assoc a b c) (g ∙ rw two (piece (a ++ b) c out i k (omega (arith, l, x, y))))
 
 -- a line of three pieces, from index i on
-pub three-at : (a b c out o p q after : List ℕ) (i j k l : ℕ) →
-    o ≡ sets out i (digits a) → p ≡ sets o j (digits b) → q ≡ sets p k (digits c) → after ≡ sets q l (10 ∷ []) →
-    i + 2 * length a ≡ j → j + 2 * length b ≡ k → k + 2 * length c ≡ l → after ≡ sets out i (lineOf (a ++ (b ++ c)))
-three-at a b c out o p q after i j k l e f g h x y z =
+pub three-at : (a b c out o p q out′ : List ℕ) (i j k l : ℕ) →
+    o ≡ sets out i (digits a) → p ≡ sets o j (digits b) → q ≡ sets p k (digits c) → out′ ≡ sets q l (10 ∷ []) →
+    i + 2 * length a ≡ j → j + 2 * length b ≡ k → k + 2 * length c ≡ l → out′ ≡ sets out i (lineOf (a ++ (b ++ c)))
+three-at a b c out o p q out′ i j k l e f g h x y z =
     let m : length (b ++ c) ≡ length b + length c = length-append b c in
     let n : length (a ++ (b ++ c)) ≡ length a + length (b ++ c) = length-append a (b ++ c) in
-    line-at (a ++ (b ++ c)) out q after i l (pieces a b c out o p q i j k e f g x y) h (omega (arith, m, n, x, y, z))
+    line-at (a ++ (b ++ c)) out q out′ i l (pieces a b c out o p q i j k e f g x y) h (omega (arith, m, n, x, y, z))
 
 three-length : (a b c : List ℕ) → length (lineOf (a ++ (b ++ c))) ≡ 2 * (length a + (length b + length c)) + 1
 three-length a b c =
@@ -118,10 +118,10 @@ table-length period deadline receiver sends m n =
     )
 
 -- three runs, each behind the one before
-pub runs : (a b c out o p after : List ℕ) (j k : ℕ) →
-    o ≡ sets out 0 a → p ≡ sets o j b → after ≡ sets p k c → length a ≡ j →
-    j + length b ≡ k → after ≡ sets out 0 (a ++ (b ++ c))
-runs a b c out o p after j k e f g x y =
+pub runs : (a b c out o p out′ : List ℕ) (j k : ℕ) →
+    o ≡ sets out 0 a → p ≡ sets o j b → out′ ≡ sets p k c → length a ≡ j →
+    j + length b ≡ k → out′ ≡ sets out 0 (a ++ (b ++ c))
+runs a b c out o p out′ j k e f g x y =
     rw (sets-append a (b ++ c) out 0, zero-add (length a), sets-append b c (sets out 0 a) (length a))
     (g ∙ rw (f, e, ← y, ← x))
 

@@ -9,7 +9,7 @@ use Rattle.steps.specs.Faults.{worse, worst}
 use Rattle.steps.specs.Steps.{Step, On, Stop, _⟫_}
 use Rattle.steps.specs.Lifted.{holds, size}
 use Rattle.steps.specs.Laws.{going, Moved, went, stopped, goes-none, goes-shorter, moved-then, moved-less, moved-either}
-use Rattle.rows.specs.Rows.{Row, Store, store, kept, keptAll}
+use Rattle.rows.specs.Rows.{Row, Store, store, withRow, withRows}
 use Rattle.rows.specs.Said.{Said, said, Rule, quiet, joined, onward, _⨟_, optionally, repeatBy, repeat, put, noProps, merged, apart, adding}
 use Rattle.steps.specs.declared.Went.{Went}
 use Rattle.rows.specs.declared.Reading.{Reading}
@@ -20,14 +20,14 @@ unfolding worst
 worst-append f [] b = refl
 worst-append f (g ∷ a) b = worst-append (worse f g) a b
 
-pub kept-append : (s : Store) (a b : List Row) → keptAll s (a ++ b) ≡ keptAll (keptAll s a) b
-unfolding keptAll
-kept-append s [] b = refl
-kept-append s (x ∷ a) b = kept-append (kept s x) a b
+pub rows-append : (s : Store) (a b : List Row) → withRows s (a ++ b) ≡ withRows (withRows s a) b
+unfolding withRows
+rows-append s [] b = refl
+rows-append s (x ∷ a) b = rows-append (withRow s x) a b
 
 -- what is said in a row is done in a row
 effect-joined : (s : State) (a b : Said) → effect (effect s a) b ≡ effect s (joined a b)
-effect-joined s a b = rw (worst-append (s .fault) (a .notes) (b .notes), kept-append (s .store) (a .rows) (b .rows))
+effect-joined s a b = rw (worst-append (s .fault) (a .notes) (b .notes), rows-append (s .store) (a .rows) (b .rows))
 
 does-after : (s : State) (w : Step) (qs : List ℕ) (is : List Row) (ns : List Fault) (g : Rule) →
     does (effect s (said w qs is ns)) g ≡ effect s (said w qs is ns ⨟ g)
@@ -77,7 +77,7 @@ does-then-going s f h g =
 
 -- a rule that says no more
 pub does-quiet : (s : State) (f : List Token → Step) → state (s .went ⟫ f) (s .props) (s .fault) (s .store) ≡ does s (quiet f)
-unfolding does worst keptAll
+unfolding does worst withRows
 does-quiet s f =
     by-went (λ (s : State). state (s .went ⟫ f) (s .props) (s .fault) (s .store) ≡ does s (quiet f)) (λ ts qs x t. refl) (λ f qs x t. refl) s
 
@@ -99,7 +99,7 @@ stay : Rule
 stay ps ts = said (On ts) ps [] []
 
 does-stay : (s : State) → s ≡ does s stay
-unfolding does stay worst keptAll
+unfolding does stay worst withRows
 does-stay s = by-went (λ (s : State). s ≡ does s stay) (λ ts qs x t. refl) (λ f qs x t. refl) s
 
 pub optionally-on : (b : List Token → Bool) (f : Rule) (s : State) → holds b (s .went) ≡ true → does s f ≡ does s (optionally b f)
@@ -247,11 +247,11 @@ does-adding s f =
 -- ## What is declared
 
 pub does-put : (s : State) (row : List ℕ → Row) → holds (λ ts. true) (s .went) ≡ true →
-    state (s .went) (s .props) (s .fault) (kept (s .store) (row (s .props))) ≡ does s (put row)
-unfolding does worst keptAll
+    state (s .went) (s .props) (s .fault) (withRow (s .store) (row (s .props))) ≡ does s (put row)
+unfolding does worst withRows
 does-put s row =
     by-went (λ (s : State). holds (λ ts. true) (s .went) ≡ true →
-    state (s .went) (s .props) (s .fault) (kept (s .store) (row (s .props))) ≡ does s (put row))
+    state (s .went) (s .props) (s .fault) (withRow (s .store) (row (s .props))) ≡ does s (put row))
     (λ ts qs x t h. refl) (λ f qs x t h. absurd (true≢false (sym h))) s
 
 -- the same of a reading: where a rule has stopped nothing more is done, and a row is put where none has
@@ -261,7 +261,7 @@ unfolding does
 stopped-stays p r m rule f e = rw e
 
 pub put-goes : (p : List ℕ) (r : Reading) (m l : List ℕ) (n at : ℕ) (row : List ℕ → Row) → r .went ≡ Went.To at →
-    store l n ≡ kept (store m (r .count)) (row (r .props)) →
+    store l n ≡ withRow (store m (r .count)) (row (r .props)) →
     stateOf p (reading (r .went) (r .props) n (r .fault)) l ≡ does (stateOf p r m) (put row)
-unfolding does worst keptAll
+unfolding does worst withRows
 put-goes p r m l n at row e h = rw (e, h)

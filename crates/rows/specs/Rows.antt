@@ -65,10 +65,10 @@ abbrev pub store : List ℕ → ℕ → Store
 store m n = record { memory = m; count = n }
 
 -- one row more, where there is room for it
-unfoldable pub kept : Store → Row → Store
-kept s row =
+unfoldable pub withRow : Store → Row → Store
+withRow s row =
     cond (leb (rowWords * s .count + rowWords) (length (s .memory))) (store (sets (s .memory) (rowWords * s .count) row) (s .count + 1)) s
 
-unfoldable pub keptAll : Store → List Row → Store
-keptAll s [] = s
-keptAll s (x ∷ xs) = keptAll (kept s x) xs
+unfoldable pub withRows : Store → List Row → Store
+withRows s [] = s
+withRows s (x ∷ xs) = withRows (withRow s x) xs

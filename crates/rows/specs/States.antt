@@ -7,7 +7,7 @@ use Rattle.steps.specs.declared.Went.{Went}
 use Rattle.steps.specs.Steps.{Step, On, Stop}
 use Rattle.steps.specs.Lifted.{lift}
 use Rattle.rows.specs.declared.Reading.{Reading}
-use Rattle.rows.specs.Rows.{Row, Store, store, keptAll}
+use Rattle.rows.specs.Rows.{Row, Store, store, withRows}
 use Rattle.rows.specs.Said.{Said, Rule, noProps}
 
 -- how the text goes on, the properties found, the least fault noted, and the rows so far
@@ -26,7 +26,7 @@ stateOf p r m = state (lift p (r .went)) (r .props) (r .fault) (store m (r .coun
 
 -- what was said is added
 abbrev pub effect : State → Said → State
-effect s r = state (r .went) (r .props) (worst (s .fault) (r .notes)) (keptAll (s .store) (r .rows))
+effect s r = state (r .went) (r .props) (worst (s .fault) (r .notes)) (withRows (s .store) (r .rows))
 
 abbrev pub doesFrom : Step → State → Rule → State
 doesFrom (On ts) s rule = effect s (rule (s .props) ts)

@@ -9,7 +9,7 @@ use steps::worse;
 ghost use Rattle.common.specs.Words.{_≡_, ℕ, List, length};
 ghost use Rattle.steps.specs.Steps.{the};
 ghost use Rattle.steps.specs.Lifted.{lift, firstKind, secondKind};
-ghost use Rattle.rows.specs.Rows.{Row, store, kept};
+ghost use Rattle.rows.specs.Rows.{Row, store, withRow};
 ghost use Rattle.rows.specs.Said.{quiet, put, merged};
 ghost use Rattle.rows.specs.States.{stateOf, does, begun, onWith, propsWith, faultWith, firstOf};
 
@@ -126,7 +126,7 @@ fn first_of(a: usize, b: usize) -> usize
 
 // A row more, where there is room.
 fn keep(rows: &mut [usize], count: usize, row: [usize; ROW]) -> usize
-    ensures { λ r. ⌜ store (now (rows .exit)) r ≡ kept (store (now (rows .entry)) count) row ⌝ }
+    ensures { λ r. ⌜ store (now (rows .exit)) r ≡ withRow (store (now (rows .entry)) count) row ⌝ }
 {
     if rows.len() / ROW <= count {
         return count;

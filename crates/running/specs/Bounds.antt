@@ -9,7 +9,7 @@ use Rattle.plan.specs.declared.Plan.{Plan}
 use Rattle.counting.specs.Columns.{lent, upTo-columns}
 use Rattle.counting.specs.Bounds.{upTo-fits}
 use Rattle.slots.specs.Slots.{slotAt}
-use Rattle.judge.specs.Accepted.{Ground}
+use Rattle.judge.specs.Taken.{Ground}
 use Rattle.running.specs.Calls.{receivingJob, slotFor}
 
 -- what `slot_for` asks

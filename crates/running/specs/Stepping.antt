@@ -9,7 +9,7 @@ use Rattle.plan.specs.Plan.{queueAt}
 use Rattle.plan.specs.Sound.{usable}
 use Rattle.plan.specs.Verdicts.{verdict, by-refusal, by-clear}
 use Rattle.slots.specs.Slots.{numberIn}
-use Rattle.judge.specs.Accepted.{send-taken, sender-fits, ReceiveTaken, receive-taken}
+use Rattle.judge.specs.Taken.{send-taken, sender-fits, ReceiveTaken, receive-taken}
 use Rattle.running.specs.Types.{Number, Slot, Plan, Sent, Received, Verdict}
 use Rattle.running.specs.Calls.{sendAnswer, receiveLines, receivingJob, nextNumber, slotFor, found, acceptedReceive, look}
 use Rattle.running.specs.Bounds.{window-small}

@@ -6,7 +6,7 @@ ghost use Rattle.plan.specs.Limits.{taskLimit, queueLimit};
 ghost use Rattle.tables.specs.Table.{counted, flat, tabled};
 
 // A counted row keeps its value, a row beyond the count is 0.
-pub fn kept(on: bool, value: u64) -> u64
+pub fn value_within(on: bool, value: u64) -> u64
     ensures { λ r. ⌜ r ≡ only on value ⌝ }
 {
     if on { value } else { 0 }
@@ -18,7 +18,7 @@ fn task_column(tasks: usize, values: [u64; Plan::TASKS]) -> [u64; Plan::TASKS]
 {
     let mut out = [0; Plan::TASKS];
     for i in 0..Plan::TASKS {
-        out[i] = kept(i < tasks, values[i]);
+        out[i] = value_within(i < tasks, values[i]);
     }
     out
 }
@@ -29,7 +29,7 @@ fn queue_column(queues: usize, values: [usize; Plan::QUEUES]) -> [usize; Plan::Q
 {
     let mut out = [0; Plan::QUEUES];
     for q in 0..Plan::QUEUES {
-        out[q] = kept(q < queues, values[q] as u64) as usize;
+        out[q] = value_within(q < queues, values[q] as u64) as usize;
     }
     out
 }

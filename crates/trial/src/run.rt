@@ -111,10 +111,10 @@ fn say_bytes(bytes: &[u8]) {
 
 // The view of a line `view LEN BYTE`, in hexadecimal.
 fn say_view(run: Receiving, line: &[u8], memory: &[u8]) {
-    let kept = run.answer;
+    let answer = run.answer;
     let filler = [(number(line, 1) % 256) as u8; MOST_BYTES];
     let asked = number(line, 0) as usize % (MOST_BYTES + 1);
-    say_bytes(view::view(kept, memory, &filler[..asked]));
+    say_bytes(view::view(answer, memory, &filler[..asked]));
 }
 
 // A digest is the sum of the values, each times its place counted from 1, modulo a prime: a change anywhere shows. The value has

@@ -106,7 +106,7 @@ module _ (k : tie.After-frame-of Inv-loop μ-loop) where
       (x : Arm) → let a = start ended .args in
       Underway (fedFrom (consoleOf (a .desk) (a .memory .now)) (a .held .now) (a .used) (a .piece .now) (a .from) (a .out .now)) (a .piece .now)
       (a .from) (a .held .now) (a .out .now) (x .memory′) (line .bytes-until .last .0)
-      (putMid (turn .loop .w) (length (turn .loop .out) - turn .loop .w) (turn .loop .out) (x .after))
+      (putMid (turn .loop .w) (length (turn .loop .out) - turn .loop .w) (turn .loop .out) (x .rest′))
       (x .result .desk) 0 (ended .end-of .result + 1) (turn .loop .w + x .result .written)
       × (length (x .memory′) ≡ length (a .memory .now))
   again x = (
@@ -143,7 +143,7 @@ module _ (c : tie.After-struct-known Inv-loop μ-loop) where
       record {
         result = _;
         memory′ = _;
-        after = _;
+        rest′ = _;
         same-size = c .before .before .before .before .before .before .memory .given;
         takes =
             call-taken (desk call-frame) _ _ _ (call-frame .frame-of .ensures) (i .before .is-call .ensures)
@@ -173,7 +173,7 @@ module _ (c : tie.After-struct-known2 Inv-loop μ-loop) where
       record {
         result = set .set-table .result;
         memory′ = _;
-        after = _;
+        rest′ = _;
         same-size = c .before .before .before .before .before .before .before .before .before .before .memory2 .given;
         takes =
             table-taken (desk table-frame) _ _ _ (table-frame .frame-of .ensures) (i .before .is-call .ensures)

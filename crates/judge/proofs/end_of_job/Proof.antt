@@ -14,7 +14,7 @@ deadline-of-requires c κs =
 returns : tie.Need-returns
 returns c =
     let a = c .before .before .args in
-    c .deadline-of .ensures ∙ ap (λ (k : Job). tick (due (a .period) (a .after) (k .0))) (c .before .job-at .ensures)
+    c .deadline-of .ensures ∙ ap (λ (k : Job). tick (due (a .period) (a .span) (k .0))) (c .before .job-at .ensures)
 
 pub end-of-job-spec : {M : Type 1} → statement M
 end-of-job-spec = tie.close (tie.spec (λ c κs. search needs) deadline-of-requires returns)

@@ -7,7 +7,7 @@ use Rattle.plan.specs.Plan.{lentPlan, queueAt, Usable}
 use Rattle.plan.specs.Rules.{soundPlan}
 use Rattle.plan.specs.Sound.{sound-iff, usable}
 use Rattle.plan.specs.declared.Plan.{Plan}
-use Rattle.judge.specs.Accepted.{slots-fit, eight, receiver-fits}
+use Rattle.judge.specs.Taken.{slots-fit, eight, receiver-fits}
 use Rattle.judge.proofs.judge_receive.Statement.{statement}
 use Rattle.judge.proofs.judge_receive.Tie as tie
 

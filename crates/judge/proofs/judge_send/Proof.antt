@@ -6,7 +6,7 @@ use Rattle.plan.specs.Plan.{lentPlan}
 use Rattle.plan.specs.Rules.{soundPlan}
 use Rattle.plan.specs.Sound.{sound-iff}
 use Rattle.plan.specs.declared.Plan.{Plan}
-use Rattle.judge.specs.Accepted.{SenderFits, slots-fit, eight, connected-fits, connected-counted}
+use Rattle.judge.specs.Taken.{SenderFits, slots-fit, eight, connected-fits, connected-counted}
 use Rattle.judge.proofs.judge_send.Statement.{statement}
 use Rattle.judge.proofs.judge_send.Tie as tie
 

@@ -1,7 +1,7 @@
 -- `judge_start`: line 8 of a sound plan.
 use Rattle.common.specs.Words.{needs}
 use Rattle.plan.specs.Sound.{sound-iff}
-use Rattle.judge.specs.Accepted.{slots-fit, eight}
+use Rattle.judge.specs.Taken.{slots-fit, eight}
 use Rattle.judge.proofs.judge_start.Statement.{statement}
 use Rattle.judge.proofs.judge_start.Tie as tie
 

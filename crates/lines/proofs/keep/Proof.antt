@@ -1,14 +1,14 @@
 -- `lines::keep`: the loop keeps what is stored so far behind the carry.
 use Rattle.common.specs.Words.{needs, _≡_, ap, _∙_, _-_, _≤_, min, length, take, length-set, sets}
 use Rattle.common.specs.Stores.{sets-more}
-use Rattle.lines.specs.Lines.{kept}
+use Rattle.lines.specs.Lines.{carryLimit}
 use Rattle.lines.specs.Held.{heldOf, take-least}
 use Rattle.lines.proofs.keep.Statement.{statement}
 use Rattle.lines.proofs.keep.Tie as tie
 
 abbrev Inv-loop : tie.InvT-loop
 Inv-loop held₀ used xs n k₀ held k =
-    (k ≤ n) × (n ≡ min (kept - used) (length xs)) × (length held ≡ length held₀) × (held ≡ sets held₀ used (take k xs))
+    (k ≤ n) × (n ≡ min (carryLimit - used) (length xs)) × (length held ≡ length held₀) × (held ≡ sets held₀ used (take k xs))
 
 abbrev μ-loop : tie.MeasureT-loop
 μ-loop held₀ used xs n k₀ held k = n - k
@@ -23,10 +23,10 @@ unfolding heldOf
 returns c =
     let a = c .before .before .before .before .before .args in
     let l = c .before .loop in
-    let e : l .k ≡ min (kept - a .used) (length (a .xs .now)) = search needs in (
+    let e : l .k ≡ min (carryLimit - a .used) (length (a .xs .now)) = search needs in (
       search needs,
       l .inv .3 ∙ ap (λ xs. sets (a .held .now) (a .used) xs)
-          (ap (λ k. take k (a .xs .now)) e ∙ take-least (kept - a .used) (a .xs .now)),
+          (ap (λ k. take k (a .xs .now)) e ∙ take-least (carryLimit - a .used) (a .xs .now)),
     )
 
 pub keep-spec : {M : Type 1} → statement M

@@ -23,17 +23,17 @@ connected-requires c κs =
 
 -- once rule 9 was tested
 module _ (x : tie.After-connected) where
-  abbrev kept : tie.Else1
-  kept = x .before .before .before
+  abbrev rules-passed : tie.Else1
+  rules-passed = x .before .before .before
 
   abbrev plan : Plan
-  plan = kept .before .before .args .t1
+  plan = rules-passed .before .before .args .t1
 
   abbrev joined : Bool
-  joined = connected plan (kept .before .before .args .queue) (kept .before .before .args .task)
+  joined = connected plan (rules-passed .before .before .args .queue) (rules-passed .before .before .args .task)
 
   is-sound : soundPlan plan ≡ true
-  is-sound = passed (kept .before .sound .ensures) (kept .if1 .left)
+  is-sound = passed (rules-passed .before .sound .ensures) (rules-passed .if1 .left)
 
 returns-2 : tie.Need-returns-2
 unfolding numberedOf
@@ -48,7 +48,7 @@ module _ (y : tie.Else2) where
   is-joined = passed (tested .connected .ensures) (y .if2 .left)
 
   abbrev at : tie.Start
-  at = kept tested .before .before
+  at = rules-passed tested .before .before
 
   sends : (at .args .queue < plan tested .queues) × Sender (queueAt (plan tested) (at .args .queue)) (at .args .task)
   sends = connected-iff (plan tested) (at .args .queue) (at .args .task) .0 is-joined

@@ -1,21 +1,21 @@
 -- `mulchpenny::answer_all`: the buffers keep their lengths, the carry fits, and the desk's plan stays sound; a stream has fewer blocks
 -- left with each that comes.
 use Rattle.common.specs.Words.{needs, arith, _≡_, refl, sym, _∙_, _≤_, length, length-take}
-use Rattle.console.specs.Kept.{Kept, kept-new}
-use Rattle.lines.specs.Lines.{kept}
+use Rattle.console.specs.SoundDesk.{SoundDesk, sound-new}
+use Rattle.lines.specs.Lines.{carryLimit}
 use Rattle.mulchpenny.proofs.answer_all.Statement.{statement}
 use Rattle.mulchpenny.proofs.answer_all.Tie as tie
 
 abbrev Inv-loop : tie.InvT-loop
 Inv-loop memory₀ held₀ piece₀ out₀ d₀ u₀ s₀ memory held piece out d u s =
-    (u ≤ kept) × (length memory ≡ length memory₀) × (length held ≡ length held₀) × (length piece ≡ length piece₀)
-    × (length out ≡ length out₀) × Kept d
+    (u ≤ carryLimit) × (length memory ≡ length memory₀) × (length held ≡ length held₀) × (length piece ≡ length piece₀)
+    × (length out ≡ length out₀) × SoundDesk d
 
 abbrev μ-loop : tie.MeasureT-loop
 μ-loop memory₀ held₀ piece₀ out₀ d₀ u₀ s₀ memory held piece out d u s = s .left
 
 loop-holds : tie.Need-loop-holds Inv-loop μ-loop
-loop-holds c = (omega arith, refl, refl, refl, refl, rw (c .before .new .ensures) kept-new)
+loop-holds c = (omega arith, refl, refl, refl, refl, rw (c .before .new .ensures) sound-new)
 
 -- no byte came
 returns : tie.Need-returns Inv-loop μ-loop

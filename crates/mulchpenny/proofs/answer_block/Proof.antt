@@ -1,11 +1,11 @@
 -- `mulchpenny::answer_block`: each call of `feed` goes on where the block was left (`comes-on`) and uses at least one byte
 -- (`next-moves`), so the loop ends, and it ends at the block's end unless a write failed.
 use Rattle.common.specs.Words.{needs, arith, true≢false, _≡_, refl, sym, _∙_, _-_, _<_, _≤_, length, take}
-use Rattle.console.specs.Desk.{Kept}
+use Rattle.console.specs.Desk.{SoundDesk}
 use Rattle.feed.specs.Feed.{enough}
 use Rattle.feed.specs.Answers.{consoleOf}
 use Rattle.feed.specs.Session.{next-moves}
-use Rattle.lines.specs.Lines.{kept}
+use Rattle.lines.specs.Lines.{carryLimit}
 use Rattle.mulchpenny.specs.Block.{Comes}
 use Rattle.mulchpenny.specs.Laws.{comes-none, comes-on}
 use Rattle.mulchpenny.proofs.answer_block.Statement.{statement}
@@ -13,8 +13,8 @@ use Rattle.mulchpenny.proofs.answer_block.Tie as tie
 
 abbrev Inv-loop : tie.InvT-loop
 Inv-loop memory₀ held₀ used piece out₀ d₀ u₀ at₀ s₀ memory held out d u at s =
-    (u ≤ kept) × (at ≤ length piece) × (length held ≡ length held₀) × (length out ≡ length out₀)
-    × (length memory ≡ length memory₀) × Kept d × (s .left ≡ s₀ .left)
+    (u ≤ carryLimit) × (at ≤ length piece) × (length held ≡ length held₀) × (length out ≡ length out₀)
+    × (length memory ≡ length memory₀) × SoundDesk d × (s .left ≡ s₀ .left)
     × Comes (consoleOf d₀ memory₀) (take used held₀) (take at piece) (consoleOf d memory) (take u held)
 
 abbrev μ-loop : tie.MeasureT-loop

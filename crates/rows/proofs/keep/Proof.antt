@@ -2,7 +2,7 @@
 use Rattle.common.specs.Words.{needs, ℕ, _≡_, refl, sym, ap, _∙_, _+_, _-_, _*_, _≤_, _<_, arith, length}
 use Rattle.common.specs.Words.{take, sets, length-set, length-sets, take-all, le-leb, lt-leb}
 use Rattle.common.specs.Stores.{sets-more}
-use Rattle.rows.specs.Rows.{store, kept}
+use Rattle.rows.specs.Rows.{store, withRow}
 use Rattle.rows.proofs.keep.Statement.{statement}
 use Rattle.rows.proofs.keep.Tie as tie
 
@@ -14,15 +14,15 @@ abbrev μ-loop : tie.MeasureT-loop
 μ-loop rows₀ count row at k₀ rows k = 9 - k
 
 returns : tie.Need-returns Inv-loop μ-loop
-unfolding kept
+unfolding withRow
 returns c = let a = c .before .args in rw (lt-leb (9 * a .count + 9) (length (a .rows .now)) (search needs))
 
 loop-holds : tie.Need-loop-holds Inv-loop μ-loop
-unfolding kept
+unfolding withRow
 loop-holds c = (search needs, refl, refl, search needs)
 
 loop-again : tie.Need-loop-again Inv-loop μ-loop
-unfolding kept
+unfolding withRow
 loop-again c =
     let l = c .before in
     let a = l .before .before .args in (
@@ -33,12 +33,12 @@ loop-again c =
     )
 
 same-length : tie.Need-same-length Inv-loop μ-loop
-unfolding kept
+unfolding withRow
 same-length c =
     c .before .loop .inv .1
 
 returns-2 : tie.Need-returns-2 Inv-loop μ-loop
-unfolding kept
+unfolding withRow
 returns-2 c =
     let l = c .before in
     let a = l .before .before .args in
@@ -47,7 +47,7 @@ returns-2 c =
     rw (le-leb (9 * a .count + 9) (length (a .rows .now)) (search needs), l .loop .inv .2, e, w)
 
 pub keep-spec : {M : Type 1} → statement M
-unfolding kept
+unfolding withRow
 keep-spec =
     tie.close
     (tie.spec Inv-loop μ-loop returns (λ c. search needs) loop-holds (λ c. search needs) (λ c. search needs) (λ c. search needs)

@@ -14,7 +14,7 @@ abbrev μ-loop : tie.MeasureT-loop
 loop-again : tie.Need-loop-again Inv-loop μ-loop
 loop-again c =
     let l = c .before .before .loop in
-    (search needs, search needs, rw (c .kept .ensures) (table-more _ (l .out) (l .i) (search needs) (l .inv .2)))
+    (search needs, search needs, rw (c .value-within .ensures) (table-more _ (l .out) (l .i) (search needs) (l .inv .2)))
 
 returns : tie.Need-returns Inv-loop μ-loop
 returns c =

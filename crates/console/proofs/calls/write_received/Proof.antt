@@ -12,13 +12,13 @@ use Rattle.console.proofs.calls.write_received.Statement.{statement}
 use Rattle.console.proofs.calls.write_received.Tie as tie
 
 -- neither a message nor a gap nor a refusal
-empty-line : (a : Received) (m out after : List ℕ) (k : ℕ) → OneOf (1 ∷ 2 ∷ 3 ∷ []) (tagOf the-type a) →
+empty-line : (a : Received) (m out out′ : List ℕ) (k : ℕ) → OneOf (1 ∷ 2 ∷ 3 ∷ []) (tagOf the-type a) →
     OneOf (0 ∷ 2 ∷ 3 ∷ []) (tagOf the-type a) →
-    OneOf (0 ∷ 1 ∷ 2 ∷ []) (tagOf the-type a) → Written emptyBytes out k after → Written (receivedBytes m a) out k after
-empty-line (Received.Message n s) m out after k x y z w = absurd (miss (1 ∷ 2 ∷ 3 ∷ []) 0 tt x)
-empty-line (Received.Gap n i) m out after k x y z w = absurd (miss (0 ∷ 2 ∷ 3 ∷ []) 1 tt y)
-empty-line Received.Empty m out after k x y z w = w
-empty-line (Received.Refused r) m out after k x y z w = absurd (miss (0 ∷ 1 ∷ 2 ∷ []) 3 tt z)
+    OneOf (0 ∷ 1 ∷ 2 ∷ []) (tagOf the-type a) → Written emptyBytes out k out′ → Written (receivedBytes m a) out k out′
+empty-line (Received.Message n s) m out out′ k x y z w = absurd (miss (1 ∷ 2 ∷ 3 ∷ []) 0 tt x)
+empty-line (Received.Gap n i) m out out′ k x y z w = absurd (miss (0 ∷ 2 ∷ 3 ∷ []) 1 tt y)
+empty-line Received.Empty m out out′ k x y z w = w
+empty-line (Received.Refused r) m out out′ k x y z w = absurd (miss (0 ∷ 1 ∷ 2 ∷ []) 3 tt z)
 
 write-message-requires : tie.Need-write-message-requires
 write-message-requires c κs =

@@ -8,7 +8,7 @@ returns : tie.Need-returns
 returns c =
     let k = c .before .before in
     let a = k .args in
-    sym (lt-ltb lastTick (a .job .0 * a .period + a .after)
+    sym (lt-ltb lastTick (a .job .0 * a .period + a .span)
     (omega (arith, c .if1 .taken, mul-le-mul-left (a .job .0) (k .pre .0), mul-one (a .job .0))))
 
 deadline-of-requires : tie.Need-deadline-of-requires

@@ -31,7 +31,7 @@ loop-again c =
       omega (arith, l .loop .inv .1, sum-next f (l .loop .q)),
       omega (arith, l .before .pre (l .loop .q) (omega arith)),
       search needs,
-      rw (c .kept .ensures, l .loop .inv .1)
+      rw (c .value-within .ensures, l .loop .inv .1)
           (table-more (λ q. only (ltb q (a .queues)) (sum f q)) (l .loop .out) (l .loop .q) (search needs) (l .loop .inv .4)),
     )
 

@@ -9,7 +9,7 @@ use Rattle.plan.specs.Sound.{usable}
 use Rattle.plan.specs.Verdicts.{verdict, outcome, by-verdict}
 use Rattle.counting.specs.Columns.{planColumns, lent, senderOf-columns}
 use Rattle.slots.specs.Slots.{numberIn}
-use Rattle.judge.specs.Accepted.{ReceiveTaken, receiver-fits, receive-taken}
+use Rattle.judge.specs.Taken.{ReceiveTaken, receiver-fits, receive-taken}
 use Rattle.window.specs.Window.{planWindow, high-within, window-first, window-last, before-fits, Remembers, remembered-window, remembers-window}
 use Rattle.running.specs.Types.{Number, Slot, Plan, Verdict, Received, WindowEnds, Remembered}
 use Rattle.running.specs.Calls.{receiveLines, slotFor, found, acceptedReceive, look}

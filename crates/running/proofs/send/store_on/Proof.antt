@@ -8,7 +8,7 @@ use Rattle.plan.specs.Sound.{usable}
 use Rattle.plan.specs.Verdicts.{verdict}
 use Rattle.counting.specs.Columns.{planColumns, lent, numberDue-columns}
 use Rattle.slots.specs.Slots.{stored}
-use Rattle.judge.specs.Accepted.{SendTaken, send-taken}
+use Rattle.judge.specs.Taken.{SendTaken, send-taken}
 use Rattle.running.specs.Types.{Number, Slot, Plan, Refusal, Verdict, Sent}
 use Rattle.running.specs.Calls.{runningNumber, slotIn, slotFor, unsentAt, sendLines, sendAnswer, sendMemory}
 use Rattle.running.specs.Bounds.{slots-small, slot-inside}

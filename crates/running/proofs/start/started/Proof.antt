@@ -3,7 +3,7 @@ use Rattle.common.specs.Words.{List, ℕ, refl, sym, needs}
 use Rattle.common.specs.Tests.{failed, passed}
 use Rattle.plan.specs.Refusals.{unnamed}
 use Rattle.plan.specs.declared.refusal.Rule.the-variants.{UnsoundPlan}
-use Rattle.judge.specs.Accepted.{Ground, slots-end, slots-fit, ground-clear}
+use Rattle.judge.specs.Taken.{Ground, slots-end, slots-fit, ground-clear}
 use Rattle.running.specs.Types.{Plan}
 use Rattle.running.specs.Outcomes.{started-refused, started-clear}
 use Rattle.running.proofs.start.started.Statement.{statement}
