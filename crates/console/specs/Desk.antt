@@ -2,16 +2,16 @@
 -- list of bytes. Everything below is document 01's paragraph "The console".
 use Rattle.common.specs.Words.{ℕ, _+_, _/_, _%_, _^_, Bool, true, false, cond, List, [], _≡_, leb, ltb, eqb, length, getD, set, replicate, sets}
 use Rattle.common.specs.Table.{table}
-use Rattle.plan.specs.Limits.{taskLimit, queueLimit, payloadBytes}
+use Rattle.plan.specs.Limits.{taskLimit, queueLimit}
 use Rattle.plan.specs.Plan.{zeros}
 use Rattle.plan.specs.Rules.{soundPlan}
 use Rattle.planning.specs.Planning.{planOf}
-use Rattle.mailbox.specs.Calls.{fresh, startAnswer, startMemory, sendAnswer, sendState, sendMemory, look, receiveState}
-use Rattle.running.specs.View.{viewOf}
+use Rattle.mailbox.specs.Calls.{fresh, startAnswer, startMemory}
 use Rattle.digits.specs.Hex.{isLine, bytesIn}
 use Rattle.frames.specs.Frames.{frameOf, payloadIn}
-use Rattle.frames.specs.Answers.{longestAnswer, sizesBytes, storedBytes, messageBytes, gapBytes, emptyBytes, refusalBytes, badBytes, lineOf}
-use Rattle.console.specs.Types.{Tick, Plan, Refusal, Planned, Answer, State, Started, Sent, Received, Frame, Desk, Stepped, Reply, Replied}
+use Rattle.frames.specs.Answers.{longestAnswer, sizesBytes, refusalBytes, badBytes, lineOf}
+use Rattle.calls.specs.CallLines.{isCall, lineCall}
+use Rattle.console.specs.Types.{Plan, Refusal, Planned, Answer, State, Started, Frame, Desk, Stepped, Reply, Replied}
 
 -- what a line comes to: the desk and the memory after it, and the bytes of the line that answers it, none where it has no answer
 pub record Turn : Type 0 where
@@ -128,7 +128,7 @@ planTurn d p m (Answer.Refused r) = refusedGo m r
 unfoldable pub goTurn : Desk → List ℕ → Turn
 goTurn d m = cond (d .running) (bad d m) (planTurn d (planned d .plan) m (planned d .answer))
 
--- ## 04 and 05: the calls on the desk's own plan and state. "04 and 05 before an accepted 03, is answered 7ff000"
+-- ## 04 and 05: the calls on the desk's own plan and state
 
 unfoldable pub withState : Desk → State → Desk
 withState d s = record {
@@ -143,71 +143,12 @@ withState d s = record {
   state = s;
 }
 
-abbrev pub sentBytes : Sent → List ℕ
-sentBytes (Sent.Stored n s) = storedBytes (n .0) (s .0)
-sentBytes (Sent.Refused r) = refusalBytes r
-
--- what a call's line comes to: the state and the memory after it, and the bytes of the line that answers it
-pub record CallDone : Type 0 where
-  pub state : State
-  pub memory : List ℕ
-  pub answer : List ℕ
-
--- 7ff000, and nothing is changed
-abbrev pub unmoved : State → List ℕ → CallDone
-unmoved s m = record { state = s; memory = m; answer = lineOf badBytes }
-
-abbrev pub sendCall : Plan → State → List ℕ → ℕ → ℕ → Tick → List ℕ → CallDone
-sendCall p s m q i t payload = record {
-  state = sendState s p m q i (t .0) payload;
-  memory = sendMemory s p m q i (t .0) payload;
-  answer = lineOf (sentBytes (sendAnswer s p m q i (t .0) payload));
-}
-
--- the payload of a message is what its view shows; the filler's bytes are never written
-abbrev pub filler : List ℕ
-filler = replicate payloadBytes 0
-
-abbrev pub receivedBytes : List ℕ → Received → List ℕ
-receivedBytes m (Received.Message n s) = messageBytes (n .0) (viewOf (Received.Message n s) m filler)
-receivedBytes m (Received.Gap n i) = gapBytes (n .0) i
-receivedBytes m Received.Empty = emptyBytes
-receivedBytes m (Received.Refused r) = refusalBytes r
-
-abbrev pub receiveCall : Plan → State → List ℕ → ℕ → Tick → CallDone
-receiveCall p s m q t = record {
-  state = receiveState s p m q (t .0);
-  memory = m;
-  answer = lineOf (receivedBytes m (look s p m q (t .0)));
-}
-
--- any other frame is no call
-abbrev pub callOf : Plan → State → List ℕ → List ℕ → Frame → CallDone
-callOf p s m payload (Frame.Task period deadline) = unmoved s m
-callOf p s m payload (Frame.Queue receiver mask) = unmoved s m
-callOf p s m payload Frame.Go = unmoved s m
-callOf p s m payload (Frame.Send q i t) = sendCall p s m q i t payload
-callOf p s m payload (Frame.Receive q t) = receiveCall p s m q t
-callOf p s m payload Frame.Bad = unmoved s m
-
-abbrev pub lineCall : Bool → Plan → State → List ℕ → List ℕ → Frame → CallDone
-lineCall runs p s m payload f = cond runs (callOf p s m payload f) (unmoved s m)
-
 unfoldable pub callTurn : Desk → List ℕ → List ℕ → Frame → Turn
 callTurn d m payload f =
     let c = lineCall (d .running) (d .plan) (d .state) m payload f in
     record { desk = withState d (c .state); memory = c .memory; answer = c .answer }
 
 -- ## A frame, a line, and a step
-
--- 04, 05 and a frame that means nothing leave the table alone
-abbrev pub isCall : Frame → Bool
-isCall (Frame.Task period deadline) = false
-isCall (Frame.Queue receiver mask) = false
-isCall Frame.Go = false
-isCall (Frame.Send q i t) = true
-isCall (Frame.Receive q t) = true
-isCall Frame.Bad = true
 
 -- 01 to 03; a frame that is none of them does not belong to the table
 abbrev pub tableTurn : Desk → List ℕ → Frame → Turn

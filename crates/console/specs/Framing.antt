@@ -5,7 +5,8 @@ use Rattle.digits.specs.HexLaws.{decoded-holds, decoded-none}
 use Rattle.console.specs.Types.{Decoded, Frame, Desk, Stepped, Reply}
 use Rattle.frames.specs.Answers.{longestAnswer}
 use Rattle.frames.specs.Frames.{frameOf, payloadIn}
-use Rattle.console.specs.Desk.{Turn, bad, withState, lineCall, callTurn, frameTurn, bytesTurn, lineTurn, stepOf, Takes, StepGives}
+use Rattle.console.specs.Desk.{Turn, bad, withState, callTurn, frameTurn, bytesTurn, lineTurn, stepOf, Takes, StepGives}
+use Rattle.calls.specs.CallLines.{lineCall}
 use Rattle.console.specs.Turns.{frame-taken}
 unfoldable pub use Rattle.console.specs.Desk.{framedBytes}
 

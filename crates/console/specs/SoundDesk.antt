@@ -11,7 +11,8 @@ use Rattle.frames.specs.Frames.{frameOf, payloadIn}
 use Rattle.console.specs.Types.{Plan, Answer, State, Started, Frame, Desk}
 pub use Rattle.console.specs.Desk.{SoundDesk}
 use Rattle.console.specs.Desk.{newDesk, squareOf, planned, withTask, withQueue, withRun, withState, stepOf}
-use Rattle.console.specs.Desk.{Turn, silent, bad, rowTurn, startTurn, planTurn, goTurn, callTurn, isCall, tableTurn, frameTurn, bytesTurn}
+use Rattle.console.specs.Desk.{Turn, silent, bad, rowTurn, startTurn, planTurn, goTurn, callTurn, tableTurn, frameTurn, bytesTurn}
+use Rattle.calls.specs.CallLines.{isCall}
 use Rattle.console.specs.Desk.{lineTurn}
 
 pub sound-new : SoundDesk newDesk

@@ -2,10 +2,7 @@
 // what it says and writes at most one line. Each function here takes a turn of specs/Desk.antt.
 mod squares; // squares.rt: which task sends into which queue, from the sender masks
 mod table; // table.rt: frames 01 to 03, until a plan is accepted
-pub mod calls; // calls.rt: frames 04 and 05, from then on
 
-use calls::call_line;
-use calls::is_call;
 use digits::hex::BYTES;
 use digits::hex::Decoded;
 use frames::frame::Frame;
@@ -129,7 +126,7 @@ fn act(desk: Desk, memory: &mut [u8], frame: Frame, payload: &[u8], out: &mut [u
     ensures { λ r. ⌜ Takes (frameTurn desk (now (memory .entry)) (now (payload .entry)) frame) (now (out .entry)) r
         (now (memory .exit)) (now (out .exit)) ⌝ }
 {
-    if !is_call(frame) {
+    if !calls::is_call(frame) {
         return set_table(desk, memory, frame, out);
     }
     let plan = desk.plan;
@@ -137,7 +134,7 @@ fn act(desk: Desk, memory: &mut [u8], frame: Frame, payload: &[u8], out: &mut [u
     let sound = soundness::sound(plan);
     let mut sent = state.sent;
     let mut reading = state.reading;
-    let done = call_line(
+    let done = calls::call_line(
         desk.running,
         sound,
         &plan.sends,

@@ -13,7 +13,7 @@ ghost use Rattle.common.specs.Words.{_≡_, _++_, _-_, _≤_, length, take};
 ghost use Rattle.common.specs.Stores.{part};
 ghost use Rattle.digits.specs.Hex.{mostBytes};
 ghost use Rattle.console.specs.Desk.{SoundDesk, Takes, withState};
-ghost use Rattle.console.specs.CallLines.{stateOf};
+ghost use Rattle.calls.specs.Leaves.{stateOf};
 ghost use Rattle.console.specs.Framing.{framedBytes};
 ghost use Rattle.lines.specs.Lines.{carryLimit, cut};
 ghost use Rattle.feed.specs.Feed.{enough};
@@ -110,8 +110,8 @@ pub fn feed(
         let frame = frames::frame::frame_of(&bytes[..n]);
         u = 0;
         at = e + 1;
-        if console::calls::is_call(frame) {
-            let done = console::calls::call_line(
+        if calls::is_call(frame) {
+            let done = calls::call_line(
                 d.running,
                 true,
                 &d.plan.sends,

@@ -7,7 +7,7 @@ use Rattle.plan.specs.Plan.{queueAt}
 use Rattle.plan.specs.Says.{Said}
 use Rattle.mailbox.specs.Calls.{receivingJob, sentSays}
 use Rattle.frames.specs.Answers.{lineOf}
-use Rattle.console.specs.Desk.{sentBytes, filler, receivedBytes}
+use Rattle.calls.specs.CallLines.{sentBytes, filler, receivedBytes}
 use Rattle.history.specs.History.{send, receive, World, sendSays, receiveSays, Sends, acceptedAs, readings, reads}
 use Rattle.logs.specs.Types.{Tick, Plan, Sent, Received, Frame}
 use Rattle.logs.specs.Said.{frameIn, payloadOf, codeIn, saidIn, receivedTold}

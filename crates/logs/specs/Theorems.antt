@@ -12,7 +12,7 @@ use Rattle.plan.specs.Plan.{queueAt}
 use Rattle.digits.specs.Hex.{digits}
 use Rattle.digits.specs.Numbers.{inBytes}
 use Rattle.frames.specs.Answers.{messageBytes, lineOf}
-use Rattle.console.specs.Desk.{filler}
+use Rattle.calls.specs.CallLines.{filler}
 use Rattle.lines.specs.Lines.{lineFeed, ended}
 use Rattle.lines.specs.Whole.{linesOf}
 use Rattle.feed.specs.Answers.{consoleAfter, answersTo}

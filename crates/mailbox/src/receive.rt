@@ -12,7 +12,7 @@ impl State {
     {
         let sound = soundness::sound(plan);
         let before = self.tick;
-        let done = running::receive::receive_on(
+        let done = receiving::receive_on(
             sound,
             &plan.sends,
             &plan.period,

@@ -20,7 +20,7 @@ impl State {
     {
         let sound = soundness::sound(plan);
         let before = self.tick;
-        let done = running::send::send_on(
+        let done = sending::send_on(
             sound,
             &plan.sends,
             &plan.period,

@@ -1,10 +1,7 @@
-// The running calls: what start, send and receive answer, what start and send do to the slots in lent memory, and what send and receive
-// leave of a state. A call is lent the columns of a plan and the one column of a state that it changes, so that a caller keeps both where
-// they lie; the state's tick is handed in and comes back beside the answer. The state itself is the crate mailbox's. Which bytes a receive's
-// answer is about is defined in specs/View.antt, and shown by the crate `view`.
+// The running calls: what start, send and receive answer, and what they leave of the slots and of a state, is defined in specs/Calls.antt.
+// Here are the answers' types, and start; a send is the crate `sending`, a receive the crate `receiving`, and the state itself the crate
+// `mailbox`. Which bytes a receive's answer is about is defined in specs/View.antt, and shown by the crate `view`.
 pub mod start; // start.rt: start
-pub mod send; // send.rt: send
-pub mod receive; // receive.rt: receive, a look and a step on
 
 use calendar::Number;
 use calendar::Slot;

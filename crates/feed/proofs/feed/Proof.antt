@@ -7,7 +7,8 @@ use mir.Syntax.{w64}
 use mir.Val.{Fits}
 use Rattle.console.specs.declared.Desk.{Desk}
 use Rattle.console.specs.Desk.{withState}
-use Rattle.console.specs.CallLines.{stateOf, call-taken, table-taken}
+use Rattle.calls.specs.Leaves.{stateOf}
+use Rattle.console.specs.CallLines.{call-taken, table-taken}
 use Rattle.window.specs.Window.{Remembers, remembers-nothing}
 use Rattle.lines.specs.Ends.{end-past}
 use Rattle.feed.specs.Feed.{enough}
