@@ -1,4 +1,3 @@
 -- The pages of this crate's definitions and laws.
-pub mod Lines
 pub mod Places
 pub mod Laws

@@ -1,7 +1,7 @@
 // What stands at a place of a text, for people: its line and column, and the token that begins there.
-use crate::put::least;
 use crate::put::put;
 use crate::put::put_byte;
+use listing::least;
 use plain::make_plain;
 use reader::TOO_LONG;
 use tokens::Spot;

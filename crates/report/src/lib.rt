@@ -1,7 +1,6 @@
-// What is said of an AADL text: the console's lines of its table, or its refusal as a line of digits and in words.
+// Why an AADL text or its table is refused, in words for people.
 mod expected; // expected.rt: what was expected, in words
 mod found; // found.rt: what stands at a place
-pub mod lines; // lines.rt: the lines of digits
 mod planned; // planned.rt: planning's refusals in words
 mod put; // put.rt: bytes behind each other
 

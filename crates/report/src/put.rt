@@ -1,11 +1,6 @@
 // Bytes behind each other in lent memory. What does not fit is left out: no answer lies behind the memory's end.
-ghost use Rattle.common.specs.Words.{_≡_, _≤_, min, length};
-
-pub fn least(a: usize, b: usize) -> usize
-    ensures { λ r. ⌜ (r ≡ min a b) × (r ≤ a) × (r ≤ b) ⌝ }
-{
-    if a < b { a } else { b }
-}
+use listing::least;
+ghost use Rattle.common.specs.Words.{_≤_, length};
 
 // One byte more, and the place behind it.
 pub fn put_byte(out: &mut [u8], at: usize, byte: u8) -> usize

@@ -1,12 +1,15 @@
 // From an AADL text to the console's lines: standard input is the text, standard output the lines of its table or the line that refuses
-// it, and standard error the refusal in words. No contract can say what is read or written: all that matters is proved in `imports` and
-// `report`. Where more comes than a text may have, one byte of it is read, which tells; the rest is left.
+// it, and standard error the refusal in words. No contract can say what is read or written: all that matters is proved in `imports`,
+// `listing` and `report`. Where more comes than a text may have, one byte of it is read, which tells; the rest is left.
 use blocks::Stream;
 use frames::answers::write_refusal;
 use imports::Answer;
 use imports::Import;
 use kit::Table;
 use libc::STDIN_FILENO;
+use listing::lines::LINES_ROOM;
+use listing::lines::write_table;
+use listing::lines::write_unread;
 use plan::Plan;
 use plan::refusal::Refusal;
 use reader::MOST_BYTES;
@@ -14,9 +17,6 @@ use reader::MOST_ROWS;
 use reader::ROWS_ROOM;
 use reader::TREE_ROOM;
 use report::WORDS_ROOM;
-use report::lines::LINES_ROOM;
-use report::lines::write_table;
-use report::lines::write_unread;
 use report::say_refused;
 use report::say_unread;
 

@@ -3,7 +3,7 @@ use Rattle.common.specs.Words.{needs, arith, _≡_, length}
 use Rattle.plan.specs.Refusals.{numberOf}
 use Rattle.plan.specs.declared.refusal.Refusal.{Refusal}
 use Rattle.frames.specs.Answers.{lineOf, refusalBytes}
-use Rattle.report.specs.Laws.{numbers-length}
+use Rattle.listing.specs.Laws.{numbers-length}
 use Rattle.table.proofs.print_refused.Statement.{statement}
 use Rattle.table.proofs.print_refused.Tie as tie
 

@@ -1,5 +1,5 @@
 // The lines of digits: the console's frames of a table, and a refusal that has a place. Where they write, they require room.
-use crate::put::least;
+use crate::least;
 use digits::numbers::put_number;
 use plan::Plan;
 use reader::Refusal;
@@ -8,8 +8,8 @@ ghost use Rattle.common.specs.Words.{_≡_, [], _∷_, _+_, _*_, _≤_, _<_, co
 ghost use Rattle.plan.specs.Limits.{taskLimit, queueLimit};
 ghost use Rattle.frames.specs.Answers.{lineOf};
 ghost use Rattle.frames.specs.Writing.{Written};
-ghost use Rattle.report.specs.Lines.{linesRoom, taskLine, queueLine, maskOf, sender, taskBytes, queueBytes, eachTask};
-ghost use Rattle.report.specs.Lines.{eachQueue, tableLines, unreadBytes};
+ghost use Rattle.listing.specs.Lines.{linesRoom, taskLine, queueLine, maskOf, sender, taskBytes, queueBytes, eachTask};
+ghost use Rattle.listing.specs.Lines.{eachQueue, tableLines, unreadBytes};
 
 // Enough for the lines of any table.
 pub const LINES_ROOM: usize = 256;

@@ -1,9 +1,9 @@
--- `report::lines::put_go`: a line of one number.
+-- `listing::lines::put_go`: a line of one number.
 use Rattle.common.specs.Words.{needs, [], _∷_}
 use Rattle.digits.specs.Numbers.{inBytes}
-use Rattle.report.specs.Laws.{line-at}
-use Rattle.report.proofs.lines.put_go.Statement.{statement}
-use Rattle.report.proofs.lines.put_go.Tie as tie
+use Rattle.listing.specs.Laws.{line-at}
+use Rattle.listing.proofs.lines.put_go.Statement.{statement}
+use Rattle.listing.proofs.lines.put_go.Tie as tie
 
 returns : tie.Need-returns
 unfolding inBytes

@@ -1,9 +1,9 @@
--- `report::lines::put_queues`: a turn writes one line more.
+-- `listing::lines::put_queues`: a turn writes one line more.
 use Rattle.common.specs.Words.{_-_, _≤_, _≡_, refl, _∙_, ap, length, sets, length-sets, needs}
-use Rattle.report.specs.Lines.{eachQueue}
-use Rattle.report.specs.Laws.{no-queues, queues-more}
-use Rattle.report.proofs.lines.put_queues.Statement.{statement}
-use Rattle.report.proofs.lines.put_queues.Tie as tie
+use Rattle.listing.specs.Lines.{eachQueue}
+use Rattle.listing.specs.Laws.{no-queues, queues-more}
+use Rattle.listing.proofs.lines.put_queues.Statement.{statement}
+use Rattle.listing.proofs.lines.put_queues.Tie as tie
 
 abbrev Inv-loop : tie.InvT-loop
 Inv-loop out₀ at queues sends receiver q₀ out q =

@@ -1,9 +1,9 @@
--- `report::lines::put_tasks`: a turn writes one line more.
+-- `listing::lines::put_tasks`: a turn writes one line more.
 use Rattle.common.specs.Words.{_-_, _≤_, _≡_, refl, _∙_, ap, length, sets, length-sets, needs}
-use Rattle.report.specs.Lines.{eachTask}
-use Rattle.report.specs.Laws.{no-tasks, tasks-more}
-use Rattle.report.proofs.lines.put_tasks.Statement.{statement}
-use Rattle.report.proofs.lines.put_tasks.Tie as tie
+use Rattle.listing.specs.Lines.{eachTask}
+use Rattle.listing.specs.Laws.{no-tasks, tasks-more}
+use Rattle.listing.proofs.lines.put_tasks.Statement.{statement}
+use Rattle.listing.proofs.lines.put_tasks.Tie as tie
 
 abbrev Inv-loop : tie.InvT-loop
 Inv-loop out₀ tasks period deadline i₀ out i =

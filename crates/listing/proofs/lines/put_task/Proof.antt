@@ -1,26 +1,26 @@
--- `report::lines::put_queue`: a line of three numbers.
+-- `listing::lines::put_task`: a line of three numbers.
 use Rattle.common.specs.Words.{needs, arith}
 use Rattle.digits.specs.Numbers.{inBytes}
 use Rattle.digits.specs.NumberLaws.{bytes-length}
-use Rattle.report.specs.Lines.{queueBytes}
-use Rattle.report.specs.Laws.{three-at}
-use Rattle.report.proofs.lines.put_queue.Statement.{statement}
-use Rattle.report.proofs.lines.put_queue.Tie as tie
+use Rattle.listing.specs.Lines.{taskBytes}
+use Rattle.listing.specs.Laws.{three-at}
+use Rattle.listing.proofs.lines.put_task.Statement.{statement}
+use Rattle.listing.proofs.lines.put_task.Tie as tie
 
 returns : tie.Need-returns
-unfolding queueBytes
+unfolding taskBytes
 returns c =
     let e = c .before .before in
     let p = e .before .before .before .before in
     let q = p .before .before .before .before in
     let r = q .before .before .before .before in
     let a = r .before .before .before .args in
-    three-at (inBytes 1 0x02) (inBytes 1 (a .receiver)) (inBytes 2 (a .mask)) _ _ _ _ _ (a .at) _ _ _
+    three-at (inBytes 1 0x01) (inBytes 2 (a .period)) (inBytes 2 (a .deadline)) _ _ _ _ _ (a .at) _ _ _
     (r .put-number .ensures) (q .put-number2 .ensures) (p .put-number3 .ensures) (e .end-line .ensures)
-    (omega (arith, bytes-length 1 0x02)) (omega (arith, bytes-length 1 (a .receiver))) (omega (arith, bytes-length 2 (a .mask)))
+    (omega (arith, bytes-length 1 0x01)) (omega (arith, bytes-length 2 (a .period))) (omega (arith, bytes-length 2 (a .deadline)))
 
-pub put-queue-spec : {M : Type 1} → statement M
-put-queue-spec =
+pub put-task-spec : {M : Type 1} → statement M
+put-task-spec =
     tie.close
     (tie.spec
     (λ c κs. search needs)

@@ -1,12 +1,12 @@
--- `report::lines::write_unread`: a line of three numbers.
+-- `listing::lines::write_unread`: a line of three numbers.
 use Rattle.common.specs.Words.{needs, arith, sym}
 use Rattle.digits.specs.Numbers.{inBytes}
 use Rattle.digits.specs.NumberLaws.{bytes-length}
 use Rattle.reader.specs.Reader.{numberOf}
-use Rattle.report.specs.Lines.{unreadBytes}
-use Rattle.report.specs.Laws.{three-at, numbers-length}
-use Rattle.report.proofs.lines.write_unread.Statement.{statement}
-use Rattle.report.proofs.lines.write_unread.Tie as tie
+use Rattle.listing.specs.Lines.{unreadBytes}
+use Rattle.listing.specs.Laws.{three-at, numbers-length}
+use Rattle.listing.proofs.lines.write_unread.Statement.{statement}
+use Rattle.listing.proofs.lines.write_unread.Tie as tie
 
 returns : tie.Need-returns
 unfolding unreadBytes

@@ -1,10 +1,10 @@
--- `report::lines::mask_of`: a turn adds one bit more.
+-- `listing::lines::mask_of`: a turn adds one bit more.
 use Rattle.common.specs.Words.{_-_, _≤_, _^_, _≡_, refl, pow-suc, add-one, needs, arith}
 use Rattle.plan.specs.Limits.{taskLimit}
-use Rattle.report.specs.Lines.{maskOf, sender}
-use Rattle.report.specs.Laws.{bit-fits, mask-more, mask-fits}
-use Rattle.report.proofs.lines.mask_of.Statement.{statement}
-use Rattle.report.proofs.lines.mask_of.Tie as tie
+use Rattle.listing.specs.Lines.{maskOf, sender}
+use Rattle.listing.specs.Laws.{bit-fits, mask-more, mask-fits}
+use Rattle.listing.proofs.lines.mask_of.Statement.{statement}
+use Rattle.listing.proofs.lines.mask_of.Tie as tie
 
 abbrev Inv-loop : tie.InvT-loop
 Inv-loop q sends mask₀ bit₀ i₀ mask bit i = (i ≤ taskLimit) × (bit ≡ 2 ^ i) × (mask ≡ maskOf (sender sends q) i)

@@ -1,10 +1,10 @@
--- `report::lines::write_table`: the lines of the threads, those of the queues and the last, each behind the one before.
+-- `listing::lines::write_table`: the lines of the threads, those of the queues and the last, each behind the one before.
 use Rattle.common.specs.Words.{[], _∷_, sym, _∙_, needs, arith}
 use Rattle.frames.specs.Answers.{lineOf}
-use Rattle.report.specs.Lines.{eachTask, eachQueue, tableLines}
-use Rattle.report.specs.Laws.{tasks-length, queues-length, table-length, runs}
-use Rattle.report.proofs.lines.write_table.Statement.{statement}
-use Rattle.report.proofs.lines.write_table.Tie as tie
+use Rattle.listing.specs.Lines.{eachTask, eachQueue, tableLines}
+use Rattle.listing.specs.Laws.{tasks-length, queues-length, table-length, runs}
+use Rattle.listing.proofs.lines.write_table.Statement.{statement}
+use Rattle.listing.proofs.lines.write_table.Tie as tie
 
 returns : tie.Need-returns
 unfolding tableLines
