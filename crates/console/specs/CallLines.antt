@@ -4,8 +4,8 @@ use Rattle.frames.specs.Frames.{frameOf, payloadIn}
 use Rattle.calls.specs.CallLines.{isCall, lineCall}
 use Rattle.calls.specs.Leaves.{stateOf, Leaves}
 use Rattle.console.specs.Types.{Tick, Frame, Desk, Stepped}
-use Rattle.console.specs.Desk.{callTurn, withState, tableTurn, bytesTurn, Takes}
-use Rattle.console.specs.Turns.{frame-taken}
+use Rattle.desk.specs.Desk.{callTurn, withState, tableTurn, bytesTurn, Takes}
+use Rattle.desk.specs.Turns.{frame-taken}
 
 -- the desk's turn
 pub turn-left : (d : Desk) (m payload out : List ℕ) (f : Frame) {tick : Tick} {n : ℕ} {sent reading memory out′ : List ℕ} →

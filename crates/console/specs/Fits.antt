@@ -9,10 +9,10 @@ use Rattle.frames.specs.Frames.{frameOf, payloadIn}
 use Rattle.frames.specs.Writing.{line-length, sizes-length}
 use Rattle.frames.specs.Answers.{longestAnswer, sizesBytes, storedBytes, messageBytes, gapBytes, emptyBytes, refusalBytes, badBytes, lineOf}
 use Rattle.console.specs.Types.{Plan, Refusal, Answer, State, Started, Sent, Received, Frame, Desk}
-use Rattle.console.specs.Desk.{Turn, silent, bad, rowTurn, planned, startTurn, planTurn, goTurn, frameTurn, bytesTurn, lineTurn}
-use Rattle.console.specs.Desk.{callTurn, tableTurn}
+use Rattle.desk.specs.Desk.{Turn, silent, bad, rowTurn, planned, startTurn, planTurn, goTurn, frameTurn, bytesTurn, lineTurn}
+use Rattle.desk.specs.Desk.{callTurn, tableTurn}
 use Rattle.calls.specs.CallLines.{sentBytes, filler, receivedBytes, unmoved, callOf, lineCall, isCall}
-use Rattle.console.specs.Starts.{started-queues}
+use Rattle.desk.specs.Starts.{started-queues}
 use Rattle.calls.specs.Leaves.{view-short}
 
 -- ## An answer's bytes, at most 31: their digits and the line feed are 63

@@ -5,10 +5,11 @@ use Rattle.digits.specs.HexLaws.{decoded-holds, decoded-none}
 use Rattle.console.specs.Types.{Decoded, Frame, Desk, Stepped, Reply}
 use Rattle.frames.specs.Answers.{longestAnswer}
 use Rattle.frames.specs.Frames.{frameOf, payloadIn}
-use Rattle.console.specs.Desk.{Turn, bad, withState, callTurn, frameTurn, bytesTurn, lineTurn, stepOf, Takes, StepGives}
+use Rattle.desk.specs.Desk.{Turn, bad, withState, callTurn, frameTurn, bytesTurn, lineTurn, Takes}
+use Rattle.console.specs.Step.{stepOf, StepGives}
 use Rattle.calls.specs.CallLines.{lineCall}
-use Rattle.console.specs.Turns.{frame-taken}
-unfoldable pub use Rattle.console.specs.Desk.{framedBytes}
+use Rattle.desk.specs.Turns.{frame-taken}
+unfoldable pub use Rattle.desk.specs.Desk.{framedBytes}
 
 -- a frame that means nothing is answered alike whether a plan runs or not
 nothing-turn : (d : Desk) (m payload : List ℕ) → callTurn d m payload Frame.Bad ≡ bad d m

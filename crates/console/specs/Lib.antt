@@ -1,9 +1,7 @@
 -- The pages of this crate's definitions and laws.
 pub mod Types
-pub mod Desk
-pub mod Turns
+pub mod Step
 pub mod CallLines
-pub mod Starts
 pub mod Framing
 pub mod LongLines
 pub mod SoundDesk

@@ -3,7 +3,7 @@ use Rattle.common.specs.Words.{ℕ, _<_, _≤_, arith, List, ⊎-elim, _≡_, s
 use Rattle.common.specs.Tests.{lt-or-le}
 use Rattle.digits.specs.Hex.{longestLine, isLine}
 use Rattle.console.specs.Types.{Desk}
-use Rattle.console.specs.Desk.{bad, lineTurn}
+use Rattle.desk.specs.Desk.{bad, lineTurn}
 
 too-long : (d : Desk) (m line : List ℕ) → longestLine < length line → lineTurn d m line ≡ bad d m
 unfolding lineTurn isLine

@@ -9,11 +9,12 @@ use Rattle.digits.specs.Hex.{isLine, bytesIn}
 use Rattle.frames.specs.Answers.{longestAnswer}
 use Rattle.frames.specs.Frames.{frameOf, payloadIn}
 use Rattle.console.specs.Types.{Plan, Answer, State, Started, Frame, Desk}
-pub use Rattle.console.specs.Desk.{SoundDesk}
-use Rattle.console.specs.Desk.{newDesk, squareOf, planned, withTask, withQueue, withRun, withState, stepOf}
-use Rattle.console.specs.Desk.{Turn, silent, bad, rowTurn, startTurn, planTurn, goTurn, callTurn, tableTurn, frameTurn, bytesTurn}
+pub use Rattle.desk.specs.Desk.{SoundDesk}
+use Rattle.desk.specs.Desk.{newDesk, squareOf, planned, withTask, withQueue, withRun, withState}
+use Rattle.console.specs.Step.{stepOf}
+use Rattle.desk.specs.Desk.{Turn, silent, bad, rowTurn, startTurn, planTurn, goTurn, callTurn, tableTurn, frameTurn, bytesTurn}
 use Rattle.calls.specs.CallLines.{isCall}
-use Rattle.console.specs.Desk.{lineTurn}
+use Rattle.desk.specs.Desk.{lineTurn}
 
 pub sound-new : SoundDesk newDesk
 sound-new = record { sound = λ e. absurd (clash e refl) }

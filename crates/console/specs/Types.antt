@@ -15,7 +15,7 @@ pub use Rattle.mailbox.specs.declared.Starting.{Starting}
 pub use Rattle.mailbox.specs.declared.State.{State}
 pub use Rattle.digits.specs.declared.hex.Decoded.{Decoded}
 pub use Rattle.frames.specs.declared.frame.Frame.{Frame}
-pub use Rattle.console.specs.declared.Desk.{Desk}
+pub use Rattle.desk.specs.declared.Desk.{Desk}
 pub use Rattle.console.specs.declared.Reply.{Reply}
 pub use Rattle.console.specs.declared.Replied.{Replied}
-pub use Rattle.console.specs.declared.Stepped.{Stepped}
+pub use Rattle.desk.specs.declared.Stepped.{Stepped}

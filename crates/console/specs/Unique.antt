@@ -1,6 +1,6 @@
 -- The contract of a step determines its outcome.
 use Rattle.common.specs.Words.{ℕ, List, _≡_, sym, _∙_}
-use Rattle.console.specs.Desk.{StepGives}
+use Rattle.console.specs.Step.{StepGives}
 use Rattle.console.specs.Types.{Desk, Replied}
 
 pub step-unique : (d : Desk) (m line out : List ℕ) (r r′ : Replied) (memory memory′ out′ out″ : List ℕ) →

@@ -1,7 +1,7 @@
 -- Answering lines one after another. The desk and the memory together are the console, which answers a line and is changed by it.
 use Rattle.common.specs.Words.{ℕ, List, [], _∷_, _++_, append-assoc, _≡_, refl, sym, ap, _∙_}
-use Rattle.console.specs.declared.Desk.{Desk}
-use Rattle.console.specs.Desk.{Turn, lineTurn}
+use Rattle.desk.specs.declared.Desk.{Desk}
+use Rattle.desk.specs.Desk.{Turn, lineTurn}
 use Rattle.lines.specs.Lines.{ended}
 
 pub record Console : Type 0 where

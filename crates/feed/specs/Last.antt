@@ -2,8 +2,8 @@
 use Rattle.common.specs.Words.{ℕ, _-_, _<_, _≤_, arith, Bool, true, false, cond, List, [], _∷_, append-nil, _≡_, refl, ap, _∙_, ltb}
 use Rattle.common.specs.Words.{le-ltb}
 use Rattle.common.specs.Words.{length, take, length-take-le, sets}
-use Rattle.console.specs.declared.Desk.{Desk}
-use Rattle.console.specs.Desk.{silent, lineTurn, Takes}
+use Rattle.desk.specs.declared.Desk.{Desk}
+use Rattle.desk.specs.Desk.{silent, lineTurn, Takes}
 use Rattle.lines.specs.Lines.{lineFeed}
 unfoldable pub use Rattle.feed.specs.Answers.{lastTurn}
 use Rattle.feed.specs.Answers.{Console, consoleOf, next, reply, consoleAfter, answersTo}

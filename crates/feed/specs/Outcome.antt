@@ -1,6 +1,6 @@
 -- What a call of `feed` leaves: the result, and the three buffers, from the one definition of feeding.
 use Rattle.common.specs.Words.{ℕ, _+_, _≤_, List, _≡_, length, take, drop, sets}
-use Rattle.console.specs.declared.Desk.{Desk}
+use Rattle.desk.specs.declared.Desk.{Desk}
 use Rattle.lines.specs.Lines.{carryLimit}
 pub use Rattle.feed.specs.Answers.{consoleOf}
 use Rattle.feed.specs.Answers.{Console}

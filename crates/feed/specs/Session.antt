@@ -3,7 +3,7 @@
 use Rattle.common.specs.Words.{ℕ, suc, _+_, _-_, _<_, _≤_, arith, Bool, true, false, List, [], _∷_, _++_, map, append-nil, _≡_, refl, sym}
 use Rattle.common.specs.Words.{ap, _∙_}
 use Rattle.common.specs.Words.{eqb, ltb, length, take, drop, length-append, length-drop, le-ltb, ltb-true}
-use Rattle.console.specs.Desk.{Turn}
+use Rattle.desk.specs.Desk.{Turn}
 use Rattle.lines.specs.Lines.{lineFeed, cut, fed, ended}
 use Rattle.lines.specs.Blocks.{fed-append}
 use Rattle.lines.specs.Whole.{linesOf, whole-lines}

@@ -2,8 +2,8 @@
 use Rattle.common.specs.Words.{ℕ, _+_, _-_, _≤_, arith, List, _++_, append-assoc, append-nil, _≡_, ap, length, take, drop, length-drop}
 use Rattle.common.specs.Words.{drop-of-length-le, sets, sets-eq, take-all, drop-drop}
 use borrow.Rule.Slice.PartMut.{midOf, putMid}
-use Rattle.console.specs.declared.Desk.{Desk}
-use Rattle.console.specs.Desk.{lineTurn}
+use Rattle.desk.specs.declared.Desk.{Desk}
+use Rattle.desk.specs.Desk.{lineTurn}
 use Rattle.lines.specs.Lines.{carryLimit, cut}
 use Rattle.console.specs.LongLines.{line-taken}
 

@@ -5,9 +5,9 @@ use Rattle.common.specs.Words.{length-take, length-drop, length-append, sets, l
 use Rattle.common.specs.Words.{le-ltb}
 use borrow.Rule.Slice.PartMut.{midOf, putMid}
 use Rattle.common.specs.Stores.{part, sets-append}
-use Rattle.console.specs.declared.Desk.{Desk}
-use Rattle.console.specs.declared.Stepped.{Stepped}
-use Rattle.console.specs.Desk.{lineTurn, bytesTurn, Takes}
+use Rattle.desk.specs.declared.Desk.{Desk}
+use Rattle.desk.specs.declared.Stepped.{Stepped}
+use Rattle.desk.specs.Desk.{lineTurn, bytesTurn, Takes}
 use Rattle.console.specs.Framing.{framedBytes, line-framed}
 use Rattle.console.specs.SoundDesk.{SoundDesk, line-keeps}
 use Rattle.lines.specs.Lines.{carryLimit, cut}

@@ -4,15 +4,15 @@
 //
 // A desk is 2 KB, and by value it is copied at each call: the loop keeps it, with the columns of its state beside it, and lends them.
 use calendar::Tick;
-use console::Desk;
-use console::Stepped;
+use desk::Desk;
+use desk::Stepped;
 use digits::hex::BYTES;
 use mailbox::State;
 use plan::Plan;
 ghost use Rattle.common.specs.Words.{_≡_, _++_, _-_, _≤_, length, take};
 ghost use Rattle.common.specs.Stores.{part};
 ghost use Rattle.digits.specs.Hex.{mostBytes};
-ghost use Rattle.console.specs.Desk.{SoundDesk, Takes, withState};
+ghost use Rattle.desk.specs.Desk.{SoundDesk, Takes, withState};
 ghost use Rattle.calls.specs.Leaves.{stateOf};
 ghost use Rattle.console.specs.Framing.{framedBytes};
 ghost use Rattle.lines.specs.Lines.{carryLimit, cut};
@@ -34,7 +34,7 @@ pub struct Fed {
 fn desk_with(desk: Desk, tick: Tick, sent: [u64; Plan::CELLS], reading: [u64; Plan::QUEUES]) -> Desk
     ensures { λ r. ⌜ r ≡ withState desk (stateOf tick sent reading) ⌝ }
 {
-    console::with_state(
+    desk::with_state(
         desk,
         State {
             tick,
@@ -136,7 +136,7 @@ pub fn feed(
             w += done.written;
         } else {
             let whole = desk_with(d, tick, sent, reading);
-            let done = console::set_table(whole, memory, frame, &mut out[w..]);
+            let done = desk::set_table(whole, memory, frame, &mut out[w..]);
             d = done.desk;
             let next = d.state;
             tick = next.tick;

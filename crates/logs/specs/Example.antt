@@ -21,7 +21,7 @@ use Rattle.digits.specs.Numbers.{valueAt, inBytes}
 use Rattle.frames.specs.Frames.{frameOf, payloadIn}
 use Rattle.frames.specs.Answers.{eachSize, sizesBytes, storedBytes, messageBytes, gapBytes, emptyBytes, lineOf}
 use Rattle.console.specs.Framing.{framedBytes}
-use Rattle.console.specs.Desk.{rowTurn, withTask, withQueue, planned, withRun, goTurn, withState, callTurn, bytesTurn, lineTurn}
+use Rattle.desk.specs.Desk.{rowTurn, withTask, withQueue, planned, withRun, goTurn, withState, callTurn, bytesTurn, lineTurn}
 use Rattle.feed.specs.Answers.{consoleAfter, answersTo}
 use Rattle.logs.specs.Types.{Plan}
 use Rattle.logs.specs.Said.{saidIn}

@@ -5,7 +5,7 @@ use Rattle.plan.specs.Plan.{queueAt}
 use Rattle.planning.specs.AcceptedPlan.{Made}
 use Rattle.mailbox.specs.Calls.{fresh, startAnswer, startMemory, sendAnswer, sendState, sendMemory, look, receiveState, receivingJob}
 use Rattle.frames.specs.Answers.{sizesBytes, badBytes, lineOf}
-use Rattle.console.specs.Desk.{Turn, says, planned, withRun, withState, lineTurn}
+use Rattle.desk.specs.Desk.{Turn, says, planned, withRun, withState, lineTurn}
 use Rattle.calls.specs.CallLines.{sentBytes, filler, receivedBytes}
 use Rattle.feed.specs.Answers as feed
 use Rattle.history.specs.History.{Call, send, receive, World, History, start, _then_, same, more, Begins, after, world, sendSays, receiveSays, goOn}

@@ -2,9 +2,9 @@
 use Rattle.common.specs.Words.{ℕ, Bool, true, false, cond, List, _≡_, refl, _∙_}
 use Rattle.mailbox.specs.Calls.{sendAnswer, sendState, sendMemory, look, receiveState}
 use Rattle.console.specs.Framing.{line-framed}
-use Rattle.console.specs.Desk.{Turn, says, bad, taskTurn, queueTurn, goTurn, withState}
+use Rattle.desk.specs.Desk.{Turn, says, bad, taskTurn, queueTurn, goTurn, withState}
 use Rattle.calls.specs.CallLines.{CallDone, sentBytes, receivedBytes, callOf, lineCall}
-use Rattle.console.specs.Desk.{callTurn, frameTurn, bytesTurn, lineTurn}
+use Rattle.desk.specs.Desk.{callTurn, frameTurn, bytesTurn, lineTurn}
 use Rattle.logs.specs.Types.{Tick, Frame, Desk}
 use Rattle.logs.specs.Said.{frameIn, payloadOf}
 

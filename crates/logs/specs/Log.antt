@@ -7,7 +7,7 @@ use Rattle.plan.specs.Plan.{queueAt}
 use Rattle.mailbox.specs.Calls.{receivingJob}
 use Rattle.history.specs.History.{Call, send, receive}
 use Rattle.frames.specs.Answers.{messageBytes, gapBytes, lineOf}
-use Rattle.console.specs.Desk.{newDesk}
+use Rattle.desk.specs.Desk.{newDesk}
 use Rattle.feed.specs.Answers.{Console, next, reply, consoleAfter}
 use Rattle.logs.specs.Types.{Tick, Plan, Frame, Desk}
 use Rattle.logs.specs.Said.{frameIn, payloadOf, codeIn, saidIn}

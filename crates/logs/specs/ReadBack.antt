@@ -8,9 +8,9 @@ use Rattle.running.specs.View.{viewOf}
 use Rattle.digits.specs.Numbers.{valueAt, inBytes}
 use Rattle.digits.specs.NumberLaws.{value-back}
 use Rattle.frames.specs.Answers.{lineOf}
-use Rattle.console.specs.Desk.{Turn, silent, bad, rowTurn, withTask, withQueue, planned, squareOf, startTurn, planTurn, goTurn}
+use Rattle.desk.specs.Desk.{Turn, silent, bad, rowTurn, withTask, withQueue, planned, squareOf, startTurn, planTurn, goTurn}
 use Rattle.calls.specs.CallLines.{sentBytes, filler}
-use Rattle.console.specs.Desk.{lineTurn}
+use Rattle.desk.specs.Desk.{lineTurn}
 use Rattle.calls.specs.CallLines.{receivedBytes}
 use Rattle.logs.specs.Types.{Plan, Answer, Started, Sent, Received, Frame, Desk}
 use Rattle.logs.specs.Said.{frameIn, payloadOf, saidIn, receivedTold, startTold, planTold, badTold, nothingTold, rowTold, frameTold}

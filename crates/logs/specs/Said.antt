@@ -10,7 +10,7 @@ use Rattle.digits.specs.Hex.{bytesIn}
 use Rattle.digits.specs.Numbers.{valueAt}
 use Rattle.frames.specs.Frames.{frameOf, payloadIn}
 use Rattle.console.specs.Framing.{framedBytes}
-use Rattle.console.specs.Desk.{planned}
+use Rattle.desk.specs.Desk.{planned}
 use Rattle.logs.specs.Types.{Plan, Answer, Started, Received, Frame, Desk}
 
 -- ## Of a line that was answered

@@ -2,7 +2,7 @@
 use Rattle.common.specs.Words.{ℕ, true, List, [], _∷_, _++_, map, _↔_, _≡_}
 use Rattle.planning.specs.AcceptedPlan.{Made}
 use Rattle.frames.specs.Answers.{messageBytes, gapBytes, lineOf}
-use Rattle.console.specs.Desk.{planned}
+use Rattle.desk.specs.Desk.{planned}
 use Rattle.calls.specs.CallLines.{filler}
 use Rattle.feed.specs.Answers as feed
 use Rattle.history.specs.History.{World, History, Begins, world, history, SentIn, Reading, readBy, ReadToEnd}

@@ -4,7 +4,7 @@ use Rattle.common.specs.Words.{_∙_}
 use Rattle.common.specs.Tests.{clash}
 use Rattle.planning.specs.AcceptedPlan.{Made}
 use Rattle.mailbox.specs.Calls.{startAnswer}
-use Rattle.console.specs.Desk.{Turn, bad, planned, withRun, startTurn, planTurn, goTurn, withState, lineTurn}
+use Rattle.desk.specs.Desk.{Turn, bad, planned, withRun, startTurn, planTurn, goTurn, withState, lineTurn}
 use Rattle.calls.specs.CallLines.{filler}
 use Rattle.feed.specs.Answers as feed
 use Rattle.history.specs.History.{World, History, Begins, world, history, goOn, Reading, numberTold, numbers, Fair, asSent, nothingSent, SentIn}

@@ -5,7 +5,7 @@ use Rattle.plan.specs.Limits.{taskLimit, queueLimit}
 use Rattle.planning.specs.AcceptedPlan.{Made, accepted-made}
 use Rattle.mailbox.specs.Calls.{fresh, startAnswer, startMemory}
 use Rattle.frames.specs.Answers.{sizesBytes}
-use Rattle.console.specs.Desk.{Turn, silent, says, bad, rowTurn, withTask, withQueue, squareOf, planned, withRun, startTurn, planTurn, goTurn}
+use Rattle.desk.specs.Desk.{Turn, silent, says, bad, rowTurn, withTask, withQueue, squareOf, planned, withRun, startTurn, planTurn, goTurn}
 use Rattle.logs.specs.Types.{Tick, Plan, Answer, Started, Frame, Desk}
 use Rattle.logs.specs.Said.{codeIn}
 use Rattle.logs.specs.Lines.{bad-code}

@@ -11,4 +11,4 @@ pub use Rattle.running.specs.declared.Sent.{Sent}
 pub use Rattle.running.specs.declared.Started.{Started}
 pub use Rattle.mailbox.specs.declared.State.{State}
 pub use Rattle.frames.specs.declared.frame.Frame.{Frame}
-pub use Rattle.console.specs.declared.Desk.{Desk}
+pub use Rattle.desk.specs.declared.Desk.{Desk}

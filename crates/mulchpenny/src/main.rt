@@ -2,10 +2,10 @@
 // out before the next read, so that a person or a pipe sees each answer at once. What is done with a block is proved, by `feed` and
 // `console`; what is read and written no contract can say, and .ci/programs tests it.
 use blocks::Stream;
-use console::Desk;
+use desk::Desk;
 use plan::Plan;
 ghost use Rattle.common.specs.Words.{_≡_, _<_, _≤_, false, length, take};
-ghost use Rattle.console.specs.Desk.{SoundDesk};
+ghost use Rattle.desk.specs.Desk.{SoundDesk};
 ghost use Rattle.feed.specs.Feed.{enough};
 ghost use Rattle.feed.specs.Answers.{consoleOf};
 ghost use Rattle.lines.specs.Lines.{carryLimit};

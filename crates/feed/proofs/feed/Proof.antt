@@ -5,8 +5,8 @@ use Rattle.common.specs.Words.{needs, arith, List, _≡_, refl, sym, _∙_, ℕ
 use borrow.Rule.Slice.PartMut.{midOf, putMid}
 use mir.Syntax.{w64}
 use mir.Val.{Fits}
-use Rattle.console.specs.declared.Desk.{Desk}
-use Rattle.console.specs.Desk.{withState}
+use Rattle.desk.specs.declared.Desk.{Desk}
+use Rattle.desk.specs.Desk.{withState}
 use Rattle.calls.specs.Leaves.{stateOf}
 use Rattle.console.specs.CallLines.{call-taken, table-taken}
 use Rattle.window.specs.Window.{Remembers, remembers-nothing}

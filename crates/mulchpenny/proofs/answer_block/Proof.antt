@@ -1,7 +1,7 @@
 -- `mulchpenny::answer_block`: each call of `feed` goes on where the block was left (`comes-on`) and uses at least one byte
 -- (`next-moves`), so the loop ends, and it ends at the block's end unless a write failed.
 use Rattle.common.specs.Words.{needs, arith, true≢false, _≡_, refl, sym, _∙_, _-_, _<_, _≤_, length, take}
-use Rattle.console.specs.Desk.{SoundDesk}
+use Rattle.desk.specs.Desk.{SoundDesk}
 use Rattle.feed.specs.Feed.{enough}
 use Rattle.feed.specs.Answers.{consoleOf}
 use Rattle.feed.specs.Session.{next-moves}
