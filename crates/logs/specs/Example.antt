@@ -25,7 +25,7 @@ use Rattle.desk.specs.Desk.{rowTurn, withTask, withQueue, planned, withRun, goT
 use Rattle.feed.specs.Answers.{consoleAfter, answersTo}
 use Rattle.logs.specs.Types.{Plan}
 use Rattle.logs.specs.Said.{saidIn}
-use Rattle.logs.specs.Log.{logOf, opened, sessionLog, deskAfter, AcceptedIn, StoredIn, linesTo, EndedIn, Among}
+use Rattle.logs.specs.Log.{logOf, opened, sessionLog, deskAfter, AcceptedIn, StoredIn, linesTo, EndedIn, AmongLines}
 use Rattle.logs.specs.Theorems.{stored-is-told}
 
 -- "0500000000000a"
@@ -96,9 +96,9 @@ pub lines-to-job : linesTo tableA 0 1 (sessionLog memory input) ≡ gapLine 1 0 
 lines-to-job = computed .2 ∙ rw (sender-one, sender-three)
 
 -- Its 03 was answered 81, its 04 was stored as message 2, and job 1 was answered 87: so by the theorem the 85 of that message stands there.
-pub two-is-told : Among messageLine (linesTo tableA 0 1 (sessionLog memory input))
+pub two-is-told : AmongLines messageLine (linesTo tableA 0 1 (sessionLog memory input))
 unfolding last upTo sum count inBytes messageBytes
 two-is-told =
     subst (λ (p : Plan). EndedIn p 0 1 (sessionLog memory input) → first (queueAt p 0) 1 ≤ 2 → 2 ≤ last (queueAt p 0) 1 →
-    Among messageLine (linesTo p 0 1 (sessionLog memory input))) (computed .0)
+    AmongLines messageLine (linesTo p 0 1 (sessionLog memory input))) (computed .0)
     (stored-is-told memory input (computed .3) 0 1 2 payload (computed .4)) (computed .5) (omega arith) (omega arith)

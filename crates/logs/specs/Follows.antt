@@ -246,11 +246,11 @@ silent-more {log} h e quiet = record {
     end p q k (inr (inr x)) = x
 
 -- Lines from a desk that does not run: it never runs, or one of them is the accepted 03, and the rest are a history.
-pub data Comes (m : List ℕ) (w : feed.Console) (log : Log) (ls : List (List ℕ)) : Type 0 where
-  never : feed.consoleAfter w ls .desk .running ≡ false → Comes m w log ls
+pub data SessionComes (m : List ℕ) (w : feed.Console) (log : Log) (ls : List (List ℕ)) : Type 0 where
+  never : feed.consoleAfter w ls .desk .running ≡ false → SessionComes m w log ls
   started : (p : Plan) (before since : List (List ℕ)) (go : List ℕ) → ls ≡ before ++ (go ∷ since) →
       frameIn go ≡ Frame.Go → Made p → Begins p m →
-      Runs p m (history (callsIn since)) (feed.consoleAfter w ls) (log ++ logOf w ls) → Comes m w log ls
+      Runs p m (history (callsIn since)) (feed.consoleAfter w ls) (log ++ logOf w ls) → SessionComes m w log ls
 
 module _ (m : List ℕ) where
   -- the run begins with this line
@@ -271,7 +271,7 @@ module _ (m : List ℕ) where
 
   -- a line in front
   first : (w : feed.Console) (log : Log) (l : List ℕ) (ls : List (List ℕ)) →
-      Comes m (feed.next w l) (log ++ (record { line = l; answer = feed.reply w l } ∷ [])) ls → Comes m w log (l ∷ ls)
+      SessionComes m (feed.next w l) (log ++ (record { line = l; answer = feed.reply w l } ∷ [])) ls → SessionComes m w log (l ∷ ls)
   unfolding feed.consoleAfter logOf
   first w log l ls (never h) = never h
   first w log l ls (started p before since go e asked made begins r) =
@@ -281,7 +281,7 @@ module _ (m : List ℕ) where
 
   -- the line that starts, and lines after it
   begun : {p : Plan} (w : feed.Console) (log : Log) (l : List ℕ) (ls : List (List ℕ)) → frameIn l ≡ Frame.Go → Made p → Begins p m →
-      Runs p m start (feed.next w l) (log ++ (record { line = l; answer = feed.reply w l } ∷ [])) → Comes m w log (l ∷ ls)
+      Runs p m start (feed.next w l) (log ++ (record { line = l; answer = feed.reply w l } ∷ [])) → SessionComes m w log (l ∷ ls)
   unfolding feed.consoleAfter logOf
   begun {p} w log l ls asked made begins r =
       started p [] ls l refl asked made begins
@@ -290,11 +290,11 @@ module _ (m : List ℕ) where
 
   module _ (w : feed.Console) (log : Log) (l : List ℕ) (ls : List (List ℕ)) (lent : w .memory ≡ m) (silent : Silent log) where
     by-turn : {f : Frame} {t : Turn} → frameIn l ≡ f → lineTurn (w .desk) (w .memory) l ≡ t → Waits (w .desk) (w .memory) f t →
-        ((v : feed.Console) (log′ : Log) → v .desk .running ≡ false → v .memory ≡ m → Silent log′ → Comes m v log′ ls) →
-        Comes m w log (l ∷ ls)
+        ((v : feed.Console) (log′ : Log) → v .desk .running ≡ false → v .memory ≡ m → Silent log′ → SessionComes m v log′ ls) →
+        SessionComes m w log (l ∷ ls)
     by-turn {f} {t} asked e (waits off here quiet) rest =
         first w log l ls
-        (subst (λ (x : Turn). Comes m (nextBy x) (log ++ (entryBy l x ∷ [])) ls) (sym e)
+        (subst (λ (x : Turn). SessionComes m (nextBy x) (log ++ (entryBy l x ∷ [])) ls) (sym e)
         (rest (nextBy t) (log ++ (entryBy l t ∷ [])) off (here ∙ lent)
         (silent-more silent (entryBy l t) (subst (λ (g : Frame). Quiet g (t .answer)) (sym asked) quiet))))
     by-turn asked e (starts {p = p} table made ready) rest =
@@ -308,7 +308,8 @@ module _ (m : List ℕ) where
         opening : Plan → Turn
         opening p = says (withRun (w .desk) p fresh) (startMemory p (w .memory)) (sizesBytes (p .size) (p .queues))
 
-  comes : (w : feed.Console) (log : Log) (ls : List (List ℕ)) → w .desk .running ≡ false → w .memory ≡ m → Silent log → Comes m w log ls
+  comes : (w : feed.Console) (log : Log) (ls : List (List ℕ)) → w .desk .running ≡ false → w .memory ≡ m → Silent log →
+      SessionComes m w log ls
   unfolding feed.consoleAfter
   comes w log [] off lent silent = never off
   comes w log (l ∷ ls) off lent silent =
@@ -316,5 +317,5 @@ module _ (m : List ℕ) where
       (λ v log′ a b c. comes v log′ ls a b c)
 
   -- a session of the program
-  pub session-comes : (ls : List (List ℕ)) → Comes m (opened m) [] ls
+  pub session-comes : (ls : List (List ℕ)) → SessionComes m (opened m) [] ls
   session-comes ls = comes (opened m) [] ls refl refl silent-none

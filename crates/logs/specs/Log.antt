@@ -140,6 +140,6 @@ RightLines p q S (n ∷ ns) [] = ⊥
 RightLines p q S (n ∷ ns) (l ∷ ls) = RightLine p q S n l × RightLines p q S ns ls
 
 -- the line is one of the list
-abbrev pub Among : List ℕ → List (List ℕ) → Type 0
-Among l [] = ⊥
-Among l (x ∷ xs) = (l ≡ x) ⊎ Among l xs
+abbrev pub AmongLines : List ℕ → List (List ℕ) → Type 0
+AmongLines l [] = ⊥
+AmongLines l (x ∷ xs) = (l ≡ x) ⊎ AmongLines l xs

@@ -8,7 +8,7 @@ use Rattle.desk.specs.Desk.{Turn, bad, planned, withRun, startTurn, planTurn, g
 use Rattle.calls.specs.CallLines.{filler}
 use Rattle.feed.specs.Answers as feed
 use Rattle.history.specs.History.{World, History, Begins, world, history, goOn, Reading, numberTold, numbers, Fair, asSent, nothingSent, SentIn}
-use Rattle.history.specs.History.{AllFair, Among as AmongReadings, ReadToEnd}
+use Rattle.history.specs.History.{AllFair, Among, ReadToEnd}
 use Rattle.history.specs.Answers.{Answered, ended, answered-so}
 use Rattle.history.specs.Theorems.{same-readings}
 use Rattle.logs.specs.Types.{Plan, Answer, Planned, Started, Received, Frame, Desk}
@@ -17,14 +17,14 @@ use Rattle.logs.specs.Lines.{refusal-code}
 use Rattle.logs.specs.Frames.{turnOf, line-turn}
 use Rattle.logs.specs.Turns.{Acts, sends, receives, idles, running-acts}
 use Rattle.logs.specs.Log.{Log, logOf, written, opened, sessionLog, deskAfter, callsIn, AcceptedIn, SameTable, StoredIn, linesTo, EndedIn}
-use Rattle.logs.specs.Log.{RightLine, asStored, nothingStored, RightLines, Among}
+use Rattle.logs.specs.Log.{RightLine, asStored, nothingStored, RightLines, AmongLines}
 use Rattle.logs.specs.Session.{lineFor, Runs, AsHistory, calls}
-use Rattle.logs.specs.Follows.{run-lines, Comes, never, started, session-comes}
+use Rattle.logs.specs.Follows.{run-lines, SessionComes, never, started, session-comes}
 
 pub has-started : (m : List ℕ) (lines : List (List ℕ)) → deskAfter m lines .running ≡ true → AsHistory m lines
 has-started m lines on = go (session-comes m lines)
   where
-    go : Comes m (opened m) [] lines → AsHistory m lines
+    go : SessionComes m (opened m) [] lines → AsHistory m lines
     go (never off) = absurd (clash on off)
     go (started p before since line whole asked made begins r) =
         let e : p ≡ deskAfter m lines .plan = sym (r .plan-is) in
@@ -124,7 +124,7 @@ module _ (p : Plan) (q : ℕ) {S S′ : ℕ → List ℕ → Type 0} (agree : (n
   right-lines [] f = tt
   right-lines (r ∷ rs) f = (right-line (f .0), right-lines rs (f .1))
 
-pub among-lines : (r : Reading) (rs : List Reading) → AmongReadings r rs → Among (lineFor r) (map lineFor rs)
+pub among-lines : (r : Reading) (rs : List Reading) → Among r rs → AmongLines (lineFor r) (map lineFor rs)
 among-lines r [] a = a
 among-lines r (x ∷ rs) (inl e) = inl (ap lineFor e)
 among-lines r (x ∷ rs) (inr a) = inr (among-lines r rs a)

@@ -25,7 +25,7 @@ use Rattle.history.specs.Same.{read-to-end}
 use Rattle.history.specs.Theorems as history
 use Rattle.logs.specs.Types.{Plan}
 use Rattle.logs.specs.Log.{Entry, Log, written, opened, sessionLog, deskAfter, callsIn, AcceptedIn, Stores, StoredIn, linesTo, SameTable}
-use Rattle.logs.specs.Log.{EndedIn, RightLines, Among}
+use Rattle.logs.specs.Log.{EndedIn, RightLines, AmongLines}
 use Rattle.logs.specs.Verbatim.{message-verbatim}
 use Rattle.logs.specs.Session.{Runs, AsHistory, calls}
 use Rattle.logs.specs.Started.{has-started, accepted-runs, log-written, runs-later, right-lines, among-lines, end-queue, same-plan, same-runs}
@@ -85,10 +85,10 @@ module _ (m : List ℕ) (lines : List (List ℕ)) (accepted : AcceptedIn (sessio
 
   -- A reading whose 04 was answered 84 stands in the log of the job whose window has its number, once that job was answered 87.
   pub stored-is-told : (q k n : ℕ) (payload : List ℕ) → StoredIn log q n payload → EndedIn p q k log →
-      first (queueAt p q) k ≤ n → n ≤ last (queueAt p q) k → Among (lineOf (messageBytes n payload)) (linesTo p q k log)
+      first (queueAt p q) k ≤ n → n ≤ last (queueAt p q) k → AmongLines (lineOf (messageBytes n payload)) (linesTo p q k log)
   stored-is-told q k n payload stored end low high =
       let s : AsHistory m lines = lines-are-a-history in
-      subst (Among (lineOf (messageBytes n payload))) (sym (s .runs .told q k))
+      subst (AmongLines (lineOf (messageBytes n payload))) (sym (s .runs .told q k))
       (among-lines _ (readBy p m filler (calls s) q k)
       (history.sent-is-read (s .made) (s .begins) (calls s) q k n payload filler refl (s .runs .ended q k end) low high
       (s .runs .stored q n payload .0 stored)))
