@@ -2,7 +2,8 @@
 // answers is short. A line that has not ended goes on in the next block: its start is the carry, the first `used` bytes of `held`. What
 // `held` has behind the carry means nothing.
 //
-// A desk is 2 KB, and by value it is copied at each call: the loop keeps it, with the columns of its state beside it, and lends them.
+// A desk is 2 KB, and by value it is copied at each call: the loop keeps it, with the columns of its state beside it, and lends them. It
+// remembers the window that a receive looked into for the next one.
 use calendar::Tick;
 use desk::Desk;
 use desk::Stepped;
@@ -142,6 +143,7 @@ pub fn feed(
             tick = next.tick;
             sent = next.sent;
             reading = next.reading;
+            // another plan has other windows
             remembered = window::nothing();
             w += done.written;
         }

@@ -13,8 +13,8 @@ use Rattle.window.specs.declared.Remembered.{Remembered}
 use Rattle.window.specs.declared.WindowEnds.{WindowEnds}
 
 -- of job k of a receiver with period P
-abbrev pub windowOf : Queue → ℕ → ℕ → WindowEnds
-windowOf q P k = record {
+abbrev pub jobWindow : Queue → ℕ → ℕ → WindowEnds
+jobWindow q P k = record {
   low = tick (released P (k - 1));
   high = tick (released P k);
   before = message (upTo q (released P (k - 1)));
@@ -23,7 +23,7 @@ windowOf q P k = record {
 
 -- of the job that was released last at tick t
 abbrev pub windowAt : Queue → ℕ → ℕ → WindowEnds
-windowAt q P t = windowOf q P (t / P)
+windowAt q P t = jobWindow q P (t / P)
 
 -- both its ticks are not after t
 pub low-within : (P t : ℕ) → released P (t / P - 1) ≤ t
@@ -63,7 +63,7 @@ runsAt r P t = leb r t && ltb (t - r) P
 
 -- one of the receiver's jobs has the window w
 abbrev pub JobsWindow : Queue → ℕ → WindowEnds → Type 0
-JobsWindow q P w = (k : ℕ) × (w ≡ windowOf q P k)
+JobsWindow q P w = (k : ℕ) × (w ≡ jobWindow q P k)
 
 -- while that job runs, it is the window
 pub still-runs : (q : Queue) (P t : ℕ) {w : WindowEnds} → JobsWindow q P w → runsAt (w .high .0) P t ≡ true → w ≡ windowAt q P t
@@ -72,7 +72,7 @@ still-runs q P t {w} (k, e) h =
     let r : w .high .0 ≡ k * P = rw e in
     let l : w .high .0 ≤ t = leb-true _ _ (b .0) in
     let n : t - w .high .0 < P = ltb-true _ _ (b .1) in
-    e ∙ ap (windowOf q P) (sym (div-eq-of-lt-le P (omega (arith, l, r)) (omega (arith, l, n, r))))
+    e ∙ ap (jobWindow q P) (sym (div-eq-of-lt-le P (omega (arith, l, r)) (omega (arith, l, n, r))))
 
 abbrev pub noWindow : Remembered
 noWindow = record {
