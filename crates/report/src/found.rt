@@ -129,30 +129,29 @@ fn put_shown(out: &mut [u8], at: usize, text: &[u8], place: usize, n: usize) -> 
     behind
 }
 
-// So many bytes from a place on, in quotes; where they are many, the first of them.
+// So many bytes from a place on, found there, in quotes; where they are many, the first of them.
 fn put_quoted(out: &mut [u8], at: usize, text: &[u8], place: usize, width: usize) -> usize
     requires { ⌜ place < length (now text) ⌝ }
     ensures { λ r. ⌜ r ≤ length (now (out .entry)) ⌝ }
 {
-    let opened = put(out, at, b"'");
+    let opened = put(out, at, b" found '");
     let n = least(least(width, SHOWN), text.len() - place);
     let behind = put_shown(out, opened, text, place, n);
     if SHOWN < width {
         return put(out, behind, b"..'");
     }
-    put(out, behind, b"'")
+    put_byte(out, behind, b'\'')
 }
 
-// `found 'perod'`
+// ` found 'perod'`
 pub fn put_found(out: &mut [u8], at: usize, text: &[u8], place: usize, why: usize) -> usize
     ensures { λ r. ⌜ r ≤ length (now (out .entry)) ⌝ }
 {
-    let behind = put(out, at, b"found ");
     if text.len() <= place {
-        return put(out, behind, b"the end of the text");
+        return put(out, at, b" found the end of the text");
     }
     if why == TOO_LONG {
-        return put(out, behind, b"more text");
+        return put(out, at, b" found more text");
     }
-    put_quoted(out, behind, text, place, width_at(text, place))
+    put_quoted(out, at, text, place, width_at(text, place))
 }
