@@ -3,7 +3,7 @@ mod expected; // expected.rt: what was expected, in words
 mod found; // found.rt: what stands at a place
 mod planned; // planned.rt: planning's refusals in words
 mod put; // put.rt: bytes behind each other
-mod wording; // wording.rt: the words for what was expected
+mod wording; // wording.rt: the words for what was found and what was expected
 
 use expected::put_expected;
 use found::Point;
@@ -20,11 +20,16 @@ ghost use Rattle.common.specs.Words.{_≤_, length};
 // Enough for any line in words.
 pub const WORDS_ROOM: usize = 256;
 
-// `line 7, column 12:`
+// `line 7, column 12: found`
 fn put_point(out: &mut [u8], point: Point) -> usize
     ensures { λ r. ⌜ r ≤ length (now (out .entry)) ⌝ }
 {
-    put_filled(out, 0, b"line #, column #:", [point.line, point.column, 0])
+    put_filled(
+        out,
+        0,
+        b"line #, column #: found",
+        [point.line, point.column, 0],
+    )
 }
 
 // Why the reader refuses a text, as a compiler would say it: the line, and how many bytes it has.

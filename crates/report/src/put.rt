@@ -6,7 +6,7 @@ ghost use Rattle.common.specs.Words.{_≤_, _<_, length};
 pub const NUMBERS: usize = 3;
 
 // One byte more, and the place behind it.
-pub fn put_byte(out: &mut [u8], at: usize, byte: u8) -> usize
+fn put_byte(out: &mut [u8], at: usize, byte: u8) -> usize
     ensures { λ r. ⌜ r ≤ length (now (out .entry)) ⌝ }
 {
     if out.len() <= at {

@@ -1,7 +1,16 @@
-// What was expected, in words, under the names of why a text is refused: each of so many bytes, with spaces behind.
+// Words for what was found and what was expected: each of so many bytes, with spaces behind. As constants they are values that an arm
+// of a match can give, so that one call writes them.
 pub const WIDTH: usize = 48;
 
-// Tokens, by their kind; where others may stand there as well, they are named too.
+// What was found; a token stands in the quotes.
+pub const NOTHING_MORE: [u8; WIDTH] = *b" the end of the text                            ";
+
+pub const MORE_TEXT: [u8; WIDTH] = *b" more text                                      ";
+
+pub const QUOTED: [u8; WIDTH] = *b" '                                              ";
+
+// What was expected, under the names of why a text is refused: tokens, by their kind; where others may stand there as well, they are
+// named too.
 pub const ENDED: [u8; WIDTH] = *b"the end of the text                             ";
 
 pub const NUMBER: [u8; WIDTH] = *b"a number                                        ";
