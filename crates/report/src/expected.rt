@@ -1,7 +1,8 @@
 // What was expected at a place, in words, by a refusal's `why`: the kind of a token, or what is wrong.
 use crate::found::token_at;
-use crate::put::put;
-use crate::put::put_byte;
+use crate::put::put_padded;
+use crate::wording;
+use crate::wording::WIDTH;
 use properties::FROM_OUTSIDE;
 use properties::SECOND_TIME;
 use reader::TOO_LONG;
@@ -27,85 +28,83 @@ use words::kinds;
 ghost use Rattle.common.specs.Words.{_≤_, length};
 
 // A token of one byte.
-fn put_sign(out: &mut [u8], at: usize, kind: usize) -> usize
-    ensures { λ r. ⌜ r ≤ length (now (out .entry)) ⌝ }
-{
-    let opened = put(out, at, b"'");
-    let behind = put_byte(out, opened, (kind % 256) as u8);
-    put(out, behind, b"'")
+fn sign_words(kind: usize) -> [u8; WIDTH] {
+    let mut words = wording::SIGN;
+    words[1] = (kind % 256) as u8;
+    words
 }
 
 // A token, by its kind; where others may stand there as well, they are named too.
-fn put_token(out: &mut [u8], at: usize, kind: usize) -> usize
-    ensures { λ r. ⌜ r ≤ length (now (out .entry)) ⌝ }
-{
+fn token_words(kind: usize) -> [u8; WIDTH] {
     match kind {
-        kinds::ENDED => put(out, at, b"the end of the text"),
-        kinds::NUMBER => put(out, at, b"a number"),
-        kinds::BECOMES => put(out, at, b"'=>'"),
-        kinds::ARROW => put(out, at, b"'->' or '->>'"),
-        kinds::CLOSE_PAREN => put(out, at, b"',' or ')'"),
-        kinds::CLOSE_BRACKET => put(out, at, b"a name or ']'"),
-        kinds::CLOSE_BRACE => put(out, at, b"a property or '}'"),
-        kinds::ANNEXED => put(out, at, b"an annex's text, '{** .. **}'"),
-        kinds::END => put(out, at, b"a section, a declaration or 'end'"),
-        kinds::EVENT => put(out, at, b"a kind of port, as 'data port' or 'event port'"),
-        kinds::IMPLEMENTATION => put(out, at, b"'implementation'"),
-        kinds::OUT => put(out, at, b"'in', 'out' or another feature"),
-        kinds::PORT => put(out, at, b"'port'"),
-        kinds::THREAD => put(out, at, b"'thread', 'data', 'subprogram' or 'abstract'"),
-        kinds::NAME => put(out, at, b"a name"),
-        _ => put_sign(out, at, kind),
+        kinds::ENDED => wording::ENDED,
+        kinds::NUMBER => wording::NUMBER,
+        kinds::BECOMES => wording::BECOMES,
+        kinds::ARROW => wording::ARROW,
+        kinds::CLOSE_PAREN => wording::CLOSE_PAREN,
+        kinds::CLOSE_BRACKET => wording::CLOSE_BRACKET,
+        kinds::CLOSE_BRACE => wording::CLOSE_BRACE,
+        kinds::ANNEXED => wording::ANNEXED,
+        kinds::END => wording::END,
+        kinds::EVENT => wording::EVENT,
+        kinds::IMPLEMENTATION => wording::IMPLEMENTATION,
+        kinds::OUT => wording::OUT,
+        kinds::PORT => wording::PORT,
+        kinds::THREAD => wording::THREAD,
+        kinds::NAME => wording::NAME,
+        _ => sign_words(kind),
     }
 }
 
 // What the reading of the grammar wants.
-fn put_wanted(out: &mut [u8], at: usize, why: usize) -> usize
-    ensures { λ r. ⌜ r ≤ length (now (out .entry)) ⌝ }
-{
+fn wanted_words(why: usize) -> [u8; WIDTH] {
     match why {
-        ITS_OWN => put(out, at, b"the name that this declaration begins with"),
-        A_VALUE => put(out, at, b"a value"),
-        TOO_DEEP => put(out, at, b"at most 8 brackets within each other"),
-        A_DECLARATION => put(out, at, b"a package or a declaration"),
-        NOT_WHOLE => put(out, at, b"a whole number of ms"),
-        UNIT_UNKNOWN => put(out, at, b"the unit ms or sec"),
-        UNIT_MISSING => put(out, at, b"a unit behind it, ms or sec"),
-        SECOND_TIME => put(out, at, b"this property once"),
-        FROM_OUTSIDE => put(out, at, b"this property with a thread or its type"),
-        TOO_LONG => put(out, at, b"a text of at most 262144 bytes"),
-        _ => put_token(out, at, why),
+        ITS_OWN => wording::ITS_OWN,
+        A_VALUE => wording::A_VALUE,
+        TOO_DEEP => wording::TOO_DEEP,
+        A_DECLARATION => wording::A_DECLARATION,
+        NOT_WHOLE => wording::NOT_WHOLE,
+        UNIT_UNKNOWN => wording::UNIT_UNKNOWN,
+        UNIT_MISSING => wording::UNIT_MISSING,
+        SECOND_TIME => wording::SECOND_TIME,
+        FROM_OUTSIDE => wording::FROM_OUTSIDE,
+        TOO_LONG => wording::TOO_LONG,
+        _ => token_words(why),
     }
 }
 
 // What the judgement of a text that was read wants.
-fn put_judged(out: &mut [u8], at: usize, why: usize) -> usize
-    ensures { λ r. ⌜ r ≤ length (now (out .entry)) ⌝ }
-{
+fn judged_words(why: usize) -> [u8; WIDTH] {
     match why {
-        NO_PROCESS => put(out, at, b"a process implementation"),
-        DECLARED_BEFORE => put(out, at, b"a name that was not declared before"),
-        NO_SUCH_TYPE => put(out, at, b"a thread type that stands in the text"),
-        NO_PERIOD => put(out, at, b"a thread with a Period"),
-        NOT_PERIODIC => put(out, at, b"a thread with Dispatch_Protocol => Periodic"),
-        HAS_OFFSET => put(out, at, b"a thread without a Dispatch_Offset"),
-        NO_SUCH_THREAD => put(out, at, b"a thread of the process"),
-        CONNECTED_BEFORE => put(out, at, b"one connection from a thread to a port"),
-        NO_SUCH_PORT => put(out, at, b"a port of the thread's type"),
-        WRONG_DIRECTION => put(out, at, b"a port of the connection's direction"),
-        NOT_DELAYED => put(out, at, b"Timing => Delayed on the connection or this port"),
-        _ => put_wanted(out, at, why),
+        NO_PROCESS => wording::NO_PROCESS,
+        DECLARED_BEFORE => wording::DECLARED_BEFORE,
+        NO_SUCH_TYPE => wording::NO_SUCH_TYPE,
+        NO_PERIOD => wording::NO_PERIOD,
+        NOT_PERIODIC => wording::NOT_PERIODIC,
+        HAS_OFFSET => wording::HAS_OFFSET,
+        NO_SUCH_THREAD => wording::NO_SUCH_THREAD,
+        CONNECTED_BEFORE => wording::CONNECTED_BEFORE,
+        NO_SUCH_PORT => wording::NO_SUCH_PORT,
+        WRONG_DIRECTION => wording::WRONG_DIRECTION,
+        NOT_DELAYED => wording::NOT_DELAYED,
+        _ => wanted_words(why),
     }
 }
 
 // What was expected at a place of a text. What was declared before is there the process, where it is no name.
+fn expected_words(text: &[u8], place: usize, why: usize) -> [u8; WIDTH] {
+    if why == DECLARED_BEFORE {
+        if token_at(text, place).kind == kinds::PROCESS {
+            return wording::SECOND_PROCESS;
+        }
+    }
+    judged_words(why)
+}
+
+// What was expected at a place of a text, behind what stands there already.
 pub fn put_expected(out: &mut [u8], at: usize, text: &[u8], place: usize, why: usize) -> usize
     ensures { λ r. ⌜ r ≤ length (now (out .entry)) ⌝ }
 {
-    if why == DECLARED_BEFORE {
-        if token_at(text, place).kind == kinds::PROCESS {
-            return put(out, at, b"one process implementation");
-        }
-    }
-    put_judged(out, at, why)
+    let words = expected_words(text, place, why);
+    put_padded(out, at, &words)
 }

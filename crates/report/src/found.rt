@@ -1,13 +1,14 @@
 // What stands at a place of a text, for people: its line and column, and the token that begins there.
-use crate::put::put;
-use crate::put::put_byte;
+use crate::put::put_padded;
+use crate::wording;
+use crate::wording::WIDTH;
 use listing::least;
 use plain::make_plain;
 use reader::TOO_LONG;
 use tokens::Spot;
 use tokens::spot_at;
 use words::byte_at;
-ghost use Rattle.common.specs.Words.{_≡_, _+_, _≤_, _<_, length, take};
+ghost use Rattle.common.specs.Words.{_≡_, _≤_, _<_, length, take};
 ghost use Rattle.report.specs.Places.{past, pointOf};
 
 // Both counted from 1; a column is a byte.
@@ -117,42 +118,39 @@ fn printable(byte: u8) -> u8 {
     byte
 }
 
-// So many bytes from a place on.
-fn put_shown(out: &mut [u8], at: usize, text: &[u8], place: usize, n: usize) -> usize
-    requires { ⌜ place + n ≤ length (now text) ⌝ }
-    ensures { λ r. ⌜ r ≤ length (now (out .entry)) ⌝ }
-{
-    let mut behind = least(at, out.len());
-    for k in 0..n {
-        behind = put_byte(out, behind, printable(text[place + k]));
-    }
-    behind
-}
-
 // So many bytes from a place on, in quotes; where they are many, the first of them.
-fn put_quoted(out: &mut [u8], at: usize, text: &[u8], place: usize, width: usize) -> usize
+fn quoted(text: &[u8], place: usize, width: usize) -> [u8; WIDTH]
     requires { ⌜ place < length (now text) ⌝ }
-    ensures { λ r. ⌜ r ≤ length (now (out .entry)) ⌝ }
 {
-    let opened = put(out, at, b"'");
+    let mut words = wording::QUOTED;
     let n = least(least(width, SHOWN), text.len() - place);
-    let behind = put_shown(out, opened, text, place, n);
-    if SHOWN < width {
-        return put(out, behind, b"..'");
+    for k in 0..n {
+        words[k + 2] = printable(text[place + k]);
     }
-    put(out, behind, b"'")
+    if SHOWN < width {
+        words[n + 2] = b'.';
+        words[n + 3] = b'.';
+        words[n + 4] = b'\'';
+        return words;
+    }
+    words[n + 2] = b'\'';
+    words
 }
 
-// `found 'perod'`
+// What stands at a place of a text, as words with a space before them: ` 'perod'`.
+fn found_words(text: &[u8], place: usize, why: usize) -> [u8; WIDTH] {
+    if text.len() <= place {
+        return wording::NOTHING_MORE;
+    }
+    if why == TOO_LONG {
+        return wording::MORE_TEXT;
+    }
+    quoted(text, place, width_at(text, place))
+}
+
 pub fn put_found(out: &mut [u8], at: usize, text: &[u8], place: usize, why: usize) -> usize
     ensures { λ r. ⌜ r ≤ length (now (out .entry)) ⌝ }
 {
-    let behind = put(out, at, b"found ");
-    if text.len() <= place {
-        return put(out, behind, b"the end of the text");
-    }
-    if why == TOO_LONG {
-        return put(out, behind, b"more text");
-    }
-    put_quoted(out, behind, text, place, width_at(text, place))
+    let words = found_words(text, place, why);
+    put_padded(out, at, &words)
 }

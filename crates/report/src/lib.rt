@@ -3,6 +3,7 @@ mod expected; // expected.rt: what was expected, in words
 mod found; // found.rt: what stands at a place
 mod planned; // planned.rt: planning's refusals in words
 mod put; // put.rt: bytes behind each other
+mod wording; // wording.rt: the words for what was found and what was expected
 
 use expected::put_expected;
 use found::Point;
@@ -10,7 +11,7 @@ use found::point_of;
 use found::put_found;
 pub use planned::say_refused;
 use put::put;
-use put::put_numbered;
+use put::put_filled;
 use put::put_rule;
 use reader::Refusal;
 use reader::rule_number;
@@ -19,13 +20,16 @@ ghost use Rattle.common.specs.Words.{_≤_, length};
 // Enough for any line in words.
 pub const WORDS_ROOM: usize = 256;
 
-// `line 7, column 12: `
+// `line 7, column 12: found`
 fn put_point(out: &mut [u8], point: Point) -> usize
     ensures { λ r. ⌜ r ≤ length (now (out .entry)) ⌝ }
 {
-    let lined = put_numbered(out, 0, b"line ", point.line);
-    let columned = put_numbered(out, lined, b", column ", point.column);
-    put(out, columned, b": ")
+    put_filled(
+        out,
+        0,
+        b"line #, column #: found",
+        [point.line, point.column, 0],
+    )
 }
 
 // Why the reader refuses a text, as a compiler would say it: the line, and how many bytes it has.

@@ -1,6 +1,6 @@
 // Planning's refusals in words: what the table has, and what planning wants of it. Rows are counted from 0, as the console counts them.
-use crate::put::put;
-use crate::put::put_numbered;
+use crate::put::NUMBERS;
+use crate::put::put_filled;
 use crate::put::put_rule;
 use kit::Table;
 use plan::Plan;
@@ -8,76 +8,66 @@ use plan::refusal::Refusal;
 use plan::refusal::rule_number;
 ghost use Rattle.common.specs.Words.{_≤_, length};
 
-// `found 17 threads and 2 queues`
-fn put_counts(out: &mut [u8], at: usize, table: Table) -> usize
-    ensures { λ r. ⌜ r ≤ length (now (out .entry)) ⌝ }
-{
-    let threads = put_numbered(out, at, b"found ", table.tasks);
-    let queues = put_numbered(out, threads, b" threads and ", table.queues);
-    put(
-        out,
-        queues,
-        b" queues, expected 1 to 16 threads and 1 to 8 queues",
-    )
-}
+// The words, each of so many bytes, with spaces behind; a `#` stands for a number.
+const WIDTH: usize = 121;
 
-// `thread 2: found Period 5 and Deadline 7`
-fn put_times(out: &mut [u8], at: usize, table: Table, row: usize) -> usize
-    ensures { λ r. ⌜ r ≤ length (now (out .entry)) ⌝ }
-{
-    let numbered = put_numbered(out, at, b"thread ", row);
+const COUNTS: [u8; WIDTH] =
+    *b"no plan: found # threads and # queues, expected 1 to 16 threads and 1 to 8 queues                                        ";
+
+const NO_THREAD: [u8; WIDTH] =
+    *b"no plan: thread #                                                                                                        ";
+
+const TIMES: [u8; WIDTH] =
+    *b"no plan: thread #: found Period # and Deadline #, expected a Period of 1 to 60000 ms and a Deadline of 1 ms to the Period";
+
+const ENDS: [u8; WIDTH] =
+    *b"no plan: queue #: expected a receiver and senders that are threads of the table                                          ";
+
+const PERIODS: [u8; WIDTH] =
+    *b"no plan: queue #: expected Periods with a common multiple of at most 10000000 ms                                         ";
+
+const MESSAGES: [u8; WIDTH] =
+    *b"no plan: queue #: expected at most 4096 messages until the Periods meet again                                            ";
+
+const SLOTS: [u8; WIDTH] =
+    *b"no plan: expected at most 1024 slots for all queues together                                                             ";
+
+// What is wrong with a thread's times; of a row that no table has, the row alone.
+fn times_words(row: usize) -> [u8; WIDTH] {
     if Plan::TASKS <= row {
-        return numbered;
+        return NO_THREAD;
     }
-    let periods = table.period;
-    let deadlines = table.deadline;
-    let period = put_numbered(out, numbered, b": found Period ", periods[row] as usize);
-    let deadline = put_numbered(out, period, b" and Deadline ", deadlines[row] as usize);
-    put(
-        out,
-        deadline,
-        b", expected a Period of 1 to 60000 ms and a Deadline of 1 ms to the Period",
-    )
-}
-
-// `queue 1: ` and what is wrong with it.
-fn put_queue(out: &mut [u8], at: usize, row: usize, number: u8) -> usize
-    ensures { λ r. ⌜ r ≤ length (now (out .entry)) ⌝ }
-{
-    let numbered = put_numbered(out, at, b"queue ", row);
-    match number {
-        3 => put(
-            out,
-            numbered,
-            b": expected a receiver and senders that are threads of the table",
-        ),
-        4 => put(
-            out,
-            numbered,
-            b": expected Periods with a common multiple of at most 10000000 ms",
-        ),
-        _ => put(
-            out,
-            numbered,
-            b": expected at most 4096 messages until the Periods meet again",
-        ),
-    }
+    TIMES
 }
 
 // What is wrong with a table.
-fn put_wrong(out: &mut [u8], table: Table, row: usize, number: u8) -> usize
-    ensures { λ r. ⌜ r ≤ length (now (out .entry)) ⌝ }
-{
-    let at = put(out, 0, b"no plan: ");
+fn wrong_words(row: usize, number: u8) -> [u8; WIDTH] {
     match number {
-        1 => put_counts(out, at, table),
-        2 => put_times(out, at, table, row),
-        6 => put(
-            out,
-            at,
-            b"expected at most 1024 slots for all queues together",
-        ),
-        _ => put_queue(out, at, row, number),
+        1 => COUNTS,
+        2 => times_words(row),
+        3 => ENDS,
+        4 => PERIODS,
+        6 => SLOTS,
+        _ => MESSAGES,
+    }
+}
+
+// A thread, its Period and its Deadline.
+fn times_of(table: Table, row: usize) -> [usize; NUMBERS] {
+    if Plan::TASKS <= row {
+        return [row, 0, 0];
+    }
+    let periods = table.period;
+    let deadlines = table.deadline;
+    [row, periods[row] as usize, deadlines[row] as usize]
+}
+
+// The numbers in what is wrong with a table.
+fn numbers_of(table: Table, row: usize, number: u8) -> [usize; NUMBERS] {
+    match number {
+        1 => [table.tasks, table.queues, 0],
+        2 => times_of(table, row),
+        _ => [row, 0, 0],
     }
 }
 
@@ -87,6 +77,8 @@ pub fn say_refused(out: &mut [u8], table: Table, refusal: Refusal) -> usize
 {
     let rule = refusal.rule;
     let number = rule_number(rule);
-    let wrong = put_wrong(out, table, refusal.row, number);
+    let row = refusal.row;
+    let words = wrong_words(row, number);
+    let wrong = put_filled(out, 0, &words, numbers_of(table, row, number));
     put_rule(out, wrong, number)
 }
