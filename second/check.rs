@@ -12,8 +12,9 @@ use std::sync::Mutex;
 use std::time::Duration;
 
 const WORKERS: u64 = 2;
-/// A program that is silent for so long will not answer any more.
-const PATIENCE: Duration = Duration::from_secs(60);
+/// A program that is silent for so long will not answer any more, even where the machine has other
+/// work beside it.
+const PATIENCE: Duration = Duration::from_secs(300);
 
 /// Prints the first mismatch, or one line with the counts. The result is the exit code.
 pub fn check(program: &str, sessions: u64, first_seed: u64) -> i32 {
