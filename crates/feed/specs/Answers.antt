@@ -1,8 +1,7 @@
 -- Answering lines one after another. The desk and the memory together are the console, which answers a line and is changed by it.
 use Rattle.common.specs.Words.{ℕ, List, [], _∷_, _++_, append-assoc, _≡_, refl, sym, ap, _∙_}
 use Rattle.desk.specs.declared.Desk.{Desk}
-use Rattle.desk.specs.Desk.{Turn, lineTurn}
-use Rattle.lines.specs.Lines.{ended}
+use Rattle.desk.specs.Desk.{lineTurn}
 
 pub record Console : Type 0 where
   pub desk : Desk
@@ -26,12 +25,6 @@ consoleAfter w (l ∷ ls) = consoleAfter (next w l) ls
 unfoldable pub answersTo : Console → List (List ℕ) → List ℕ
 answersTo w [] = []
 answersTo w (l ∷ ls) = reply w l ++ answersTo (next w l) ls
-
--- the end of the input: a last line without its end is answered where at least one byte of it came, as if its end had come
-unfoldable pub lastTurn : Desk → List ℕ → List ℕ → Turn
-lastTurn d m c =
-    let w = consoleAfter (consoleOf d m) (ended c) in
-    record { desk = w .desk; memory = w .memory; answer = answersTo (consoleOf d m) (ended c) }
 
 pub console-append : (w : Console) (ks ls : List (List ℕ)) → consoleAfter w (ks ++ ls) ≡ consoleAfter (consoleAfter w ks) ls
 unfolding consoleAfter

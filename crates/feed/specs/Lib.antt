@@ -6,4 +6,3 @@ pub mod Outcome
 pub mod Step
 pub mod Turns
 pub mod Session
-pub mod Last

@@ -6,19 +6,16 @@
 // remembers the window that a receive looked into for the next one.
 use calendar::Tick;
 use desk::Desk;
-use desk::Stepped;
 use digits::hex::BYTES;
 use mailbox::State;
 use plan::Plan;
 ghost use Rattle.common.specs.Words.{_≡_, _++_, _-_, _≤_, length, take};
 ghost use Rattle.common.specs.Stores.{part};
 ghost use Rattle.digits.specs.Hex.{mostBytes};
-ghost use Rattle.desk.specs.Desk.{SoundDesk, Takes, withState};
+ghost use Rattle.desk.specs.Desk.{SoundDesk, withState};
 ghost use Rattle.calls.specs.Leaves.{stateOf};
 ghost use Rattle.console.specs.Framing.{framedBytes};
 ghost use Rattle.lines.specs.Lines.{carryLimit, cut};
-ghost use Rattle.feed.specs.Feed.{enough};
-ghost use Rattle.feed.specs.Answers.{lastTurn};
 ghost use Rattle.feed.specs.Outcome.{consoleOf, fedFrom, Outcome};
 
 // Room that every answer has.
@@ -149,27 +146,4 @@ pub fn feed(
         }
     }
     so_far(desk_with(d, tick, sent, reading), u, at, w)
-}
-
-// The end of the input: a last line without its end is answered as if its end had come.
-pub fn finish(
-    desk: Desk,
-    memory: &mut [u8],
-    held: &mut [u8],
-    used: usize,
-    out: &mut [u8],
-) -> Stepped
-    requires { ⌜ (used ≤ carryLimit) × (carryLimit ≤ length (now held)) × (enough ≤ length (now out)) × SoundDesk desk ⌝ }
-    ensures { λ r. ⌜ Takes (lastTurn desk (now (memory .entry)) (take used (now (held .entry)))) (now (out .entry)) r (now (memory .exit))
-        (now (out .exit)) ⌝ }
-{
-    if used == 0 {
-        return Stepped { desk, written: 0 };
-    }
-    let done = feed(desk, memory, held, used, b"\n", 0, out);
-    let next = done.desk;
-    Stepped {
-        desk: next,
-        written: done.written,
-    }
 }

@@ -1,6 +1,6 @@
 -- The lines of a whole text are those that feeding gives: the text split at its line feeds, each line cut.
-use Rattle.common.specs.Words.{ℕ, zero, suc, _≤_, arith, Bool, true, false, cond, List, [], _∷_, _++_, map, append-assoc, append-nil, _≡_}
-use Rattle.common.specs.Words.{refl}
+use Rattle.common.specs.Words.{ℕ, zero, suc, _<_, _≤_, arith, Bool, true, false, cond, List, [], _∷_, _++_, map, append-assoc, append-nil}
+use Rattle.common.specs.Words.{_≡_, refl}
 use Rattle.common.specs.Words.{sym, ap, _∙_, eqb, ne-eqb, length, take, length-take, take-all}
 use Rattle.lines.specs.Lines.{lineFeed, carryLimit, cut, fed, ended}
 pub use Rattle.lines.specs.Lines.{begun}
@@ -93,3 +93,9 @@ unfolding linesOf
 whole-lines t =
     sym (counted-last (fed [] t .lines) (fed [] t .carry)) ∙ ap counted (fed-pieces [] t cut-none ∙ ap (map cut) (begun-none t))
     ∙ counted-cut (pieces t)
+
+-- one line end more makes a line of a last line without its end
+pub end-fed : (c : List ℕ) → 0 < length c → fed c (lineFeed ∷ []) ≡ record { carry = []; lines = ended c }
+unfolding fed
+end-fed [] h = absurd (omega arith)
+end-fed (b ∷ bs) h = refl

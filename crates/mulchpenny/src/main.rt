@@ -64,7 +64,7 @@ fn answer_block(
     }
 }
 
-// Answers a last line without its end.
+// Answers a last line without its end, as if its end had come: where a byte of it came, one line end more is a block.
 fn answer_last(
     desk: Desk,
     memory: &mut [u8],
@@ -75,9 +75,8 @@ fn answer_last(
 )
     requires { ⌜ (used ≤ carryLimit) × (carryLimit ≤ length (now held)) × (enough ≤ length (now out)) × SoundDesk desk ⌝ }
 {
-    let s = feed::finish(desk, memory, held, used, out);
-    if s.written <= out.len() {
-        stream.write_answers(out, s.written);
+    if 0 < used {
+        answer_block(desk, memory, held, used, b"\n", out, stream);
     }
 }
 
