@@ -6,9 +6,9 @@ use Rattle.plan.specs.declared.Plan.{Plan}
 use Rattle.planning.specs.Planning.{planOf}
 use Rattle.planning.specs.declared.Answer.{Answer as PlanningAnswer}
 use Rattle.planning.specs.declared.Planned.{Planned}
-use Rattle.kit.specs.declared.Table.{Table}
+use Rattle.findings.specs.declared.Table.{Table}
 use Rattle.reader.specs.Reader.{answer}
-use Rattle.reader.specs.declared.Answer.{Answer as ReaderAnswer}
+use Rattle.findings.specs.declared.Answer.{Answer as ReaderAnswer}
 use Rattle.imports.specs.declared.Answer.{Answer}
 use Rattle.imports.specs.declared.Import.{Import}
 

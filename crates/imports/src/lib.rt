@@ -1,8 +1,8 @@
 // From an AADL text to a plan: the reader's table goes through planning. A text of any bytes is answered, with any memory that is lent.
-use kit::Table;
+use findings::Read;
+use findings::Table;
 use plan::Plan;
 use planning::Planned;
-use reader::Read;
 use reader::read_table;
 use soundness::square::square_of;
 ghost use Rattle.common.specs.Words.{_≡_, length};
@@ -13,7 +13,7 @@ ghost use Rattle.imports.specs.Unique.{ImportGives};
 // A refusal is the reader's, of the text, or planning's, of the table of a sound text. NoRoom is for memory that is too short for some text.
 pub enum Answer {
     Accepted,
-    TextRefused(reader::Refusal),
+    TextRefused(findings::Refusal),
     TableRefused(plan::refusal::Refusal),
     NoRoom,
 }
@@ -82,9 +82,9 @@ fn import_by(read: Read) -> Import
     let answer = read.answer;
     let table = read.table;
     match answer {
-        reader::Answer::Sound => with_plan(table),
-        reader::Answer::Refused(refusal) => unplanned(Answer::TextRefused(refusal), table),
-        reader::Answer::NoRoom => unplanned(Answer::NoRoom, table),
+        findings::Answer::Sound => with_plan(table),
+        findings::Answer::Refused(refusal) => unplanned(Answer::TextRefused(refusal), table),
+        findings::Answer::NoRoom => unplanned(Answer::NoRoom, table),
     }
 }
 
