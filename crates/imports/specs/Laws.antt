@@ -18,9 +18,9 @@ use Rattle.findings.specs.Findings.{noTable, answered}
 use Rattle.reader.specs.Reader.{refusal, answerBy, answerPlain, readOf, answer}
 use Rattle.findings.specs.declared.Answer.{Answer as ReaderAnswer}
 use Rattle.findings.specs.declared.Read.{Read}
-use Rattle.imports.specs.declared.Answer.{Answer}
-use Rattle.imports.specs.declared.Import.{Import}
-use Rattle.imports.specs.Imports.{planned, planningSays, withPlan, unplanned, importBy, importOf}
+use Rattle.tableplans.specs.TablePlans.{planned, planningSays, withPlan, unplanned, importBy}
+use Rattle.tableplans.specs.declared.Answer.{Answer}
+use Rattle.imports.specs.Imports.{importOf}
 
 -- ## A sound text
 

@@ -4,8 +4,6 @@
 use blocks::Stream;
 use findings::Table;
 use frames::answers::write_refusal;
-use imports::Answer;
-use imports::Import;
 use libc::STDIN_FILENO;
 use listing::lines::LINES_ROOM;
 use listing::lines::write_table;
@@ -19,6 +17,8 @@ use reader::TREE_ROOM;
 use report::WORDS_ROOM;
 use report::say_refused;
 use report::say_unread;
+use tableplans::Answer;
+use tableplans::Import;
 
 const TEXT_ROOM: usize = MOST_BYTES + 1;
 
