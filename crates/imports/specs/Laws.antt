@@ -13,13 +13,14 @@ use Rattle.planning.specs.AcceptedPlan.{Made, accepted-made}
 use Rattle.planning.specs.Planning.{refusedPlan, planOf}
 use Rattle.planning.specs.declared.Answer.{Answer as PlanningAnswer}
 use Rattle.steps.specs.declared.Fault.{Fault}
-use Rattle.kit.specs.declared.Table.{Table}
-use Rattle.reader.specs.Reader.{refusal, noTable, answered, answerBy, answerPlain, readOf, answer}
-use Rattle.reader.specs.declared.Answer.{Answer as ReaderAnswer}
-use Rattle.reader.specs.declared.Read.{Read}
-use Rattle.imports.specs.declared.Answer.{Answer}
-use Rattle.imports.specs.declared.Import.{Import}
-use Rattle.imports.specs.Imports.{planned, planningSays, withPlan, unplanned, importBy, importOf}
+use Rattle.findings.specs.declared.Table.{Table}
+use Rattle.findings.specs.Findings.{noTable, answered}
+use Rattle.reader.specs.Reader.{refusal, answerBy, answerPlain, readOf, answer}
+use Rattle.findings.specs.declared.Answer.{Answer as ReaderAnswer}
+use Rattle.findings.specs.declared.Read.{Read}
+use Rattle.tableplans.specs.TablePlans.{planned, planningSays, withPlan, unplanned, importBy}
+use Rattle.tableplans.specs.declared.Answer.{Answer}
+use Rattle.imports.specs.Imports.{importOf}
 
 -- ## A sound text
 

@@ -7,7 +7,7 @@ use Rattle.index.specs.Index.{aConnection}
 use Rattle.ways.specs.Ways.{cell, look, threadNamed, propertyOf}
 use Rattle.verdict.specs.Verdict.{none, isFirst}
 use Rattle.plan.specs.Limits.{taskLimit, queueLimit, cellLimit}
-use Rattle.kit.specs.declared.Table.{Table}
+use Rattle.findings.specs.declared.Table.{Table}
 use Rattle.kit.specs.declared.Chosen.{Chosen}
 
 -- the rows below n that are so, in their order

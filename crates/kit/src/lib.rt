@@ -1,5 +1,6 @@
 // The table of a text without a fault: a row for each thread in text order, and a queue for each receiving port in the order of the first
 // connection to it.
+use findings::Table;
 use index::CONNECTED;
 use index::QUEUED;
 use index::find;
@@ -17,17 +18,6 @@ ghost use Rattle.ways.specs.Ways.{cell, Known};
 ghost use Rattle.verdict.specs.Verdict.{isFirst};
 ghost use Rattle.plan.specs.Limits.{taskLimit, queueLimit, cellLimit};
 ghost use Rattle.kit.specs.Kit.{threadsOf, queuesOf, chosen, ticks, timeOf, position, receiverOf, joins, atOr, sendsAt, tableOf};
-
-// What planning takes. Where there are more threads or queues than a plan has room for, the counts still are theirs.
-pub struct Table {
-    pub tasks: usize,
-    pub queues: usize,
-    pub period: [u64; Plan::TASKS],
-    pub deadline: [u64; Plan::TASKS],
-    pub receiver: [usize; Plan::QUEUES],
-    // task i sends into queue q: entry q * TASKS + i
-    pub sends: [bool; Plan::CELLS],
-}
 
 // How many rows were chosen, and the first of them.
 struct Chosen {

@@ -4,8 +4,8 @@ use Rattle.plan.specs.Limits.{taskLimit, queueLimit}
 use Rattle.plan.specs.declared.Plan.{Plan}
 use Rattle.digits.specs.Numbers.{inBytes}
 use Rattle.frames.specs.Answers.{lineOf}
-use Rattle.reader.specs.Reader.{numberOf}
-use Rattle.reader.specs.declared.Refusal.{Refusal}
+use Rattle.findings.specs.Findings.{numberOf}
+use Rattle.findings.specs.declared.Refusal.{Refusal}
 
 -- "01: period (2 bytes), deadline (2)"
 unfoldable pub taskBytes : ℕ → ℕ → List ℕ

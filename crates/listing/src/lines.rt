@@ -1,9 +1,9 @@
 // The lines of digits: the console's frames of a table, and a refusal that has a place. Where they write, they require room.
 use crate::least;
 use digits::numbers::put_number;
+use findings::Refusal;
+use findings::rule_number;
 use plan::Plan;
-use reader::Refusal;
-use reader::rule_number;
 ghost use Rattle.common.specs.Words.{_≡_, [], _∷_, _+_, _*_, _≤_, _<_, cond, length, sets};
 ghost use Rattle.plan.specs.Limits.{taskLimit, queueLimit};
 ghost use Rattle.frames.specs.Answers.{lineOf};

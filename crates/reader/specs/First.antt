@@ -1,18 +1,19 @@
 -- Promise 1: the first place decides. A refusal (number, place) means that no fault stands at an earlier place and none with a lower number
 -- at the same one; a table means that there is no fault. Number 0 is no fault.
-use Rattle.common.specs.Words.{ℕ, zero, suc, _<_, _≤_, min, max, arith, pos-of-ne-zero, Bool, true, false, true≢false, cond, List, [], _∷_}
-use Rattle.common.specs.Words.{_⊎_, inl, inr, ⊎-elim, _≡_, refl, sym, ap, _∙_, eqb, eqb-true, eqb-false, leb, leb-true, leb-false, length}
+use Rattle.common.specs.Words.{ℕ, zero, suc, _<_, _≤_, arith, pos-of-ne-zero, Bool, true, false, true≢false, cond, List, [], _∷_}
+use Rattle.common.specs.Words.{_⊎_, inl, inr, ⊎-elim, _≡_, refl, sym, ap, _∙_, eqb, eqb-true, eqb-false, length}
 use Rattle.common.specs.Words.{getD}
 use Rattle.common.specs.Tests.{lt-or-le, clash}
 use Rattle.steps.specs.declared.Fault.{Fault}
 use Rattle.steps.specs.Faults.{noFault, worse, worst}
 use Rattle.steps.specs.Worse.{before, Before, worse-by, before-is, before-of, before-trans, before-between}
-use Rattle.kit.specs.declared.Table.{Table}
-use Rattle.reader.specs.declared.Answer.{Answer}
-use Rattle.reader.specs.declared.Answer.the-variants.{Sound, Refused, NoRoom}
-use Rattle.reader.specs.declared.Refusal.{Refusal}
-use Rattle.reader.specs.declared.Rule.the-variants.{Unfit, Unknown, NoTime, TooDeep, Twice}
-use Rattle.reader.specs.Reader.{faultsOf, numberOf, ruleOf, refusal, noTable, answered, answerBy, answerPlain, readOf}
+use Rattle.findings.specs.declared.Answer.{Answer}
+use Rattle.findings.specs.declared.Answer.the-variants.{Sound, Refused, NoRoom}
+use Rattle.findings.specs.declared.Refusal.{Refusal}
+use Rattle.findings.specs.declared.Table.{Table}
+use Rattle.findings.specs.Findings.{numberOf, ruleOf, noTable, answered}
+use Rattle.findings.specs.Laws.{clamped}
+use Rattle.reader.specs.Reader.{faultsOf, refusal, answerBy, answerPlain, readOf}
 
 -- ## The least fault of a list
 
@@ -69,29 +70,6 @@ one-of f (g ∷ gs) = ⊎-elim here (λ (x : OneOf (worst (worse f g) gs) gs).
         go false k = inl (e ∙ k)
 
 -- ## The answer
-
--- document 02's number of a fault rises with its own
-clamped : (n : ℕ) → numberOf (ruleOf n) ≡ min 24 (max 20 n)
-unfolding ruleOf
-clamped n = one (leb n 20) refl
-  where
-    four : (x : Bool) → eqb n 23 ≡ x → 22 < n → numberOf (cond x TooDeep Twice) ≡ min 24 (max 20 n)
-    four true e l = omega (arith, eqb-true n 23 e)
-    four false e l = let h = eqb-false n 23 e in omega arith
-
-    three : (x : Bool) → eqb n 22 ≡ x → 21 < n → numberOf (cond x NoTime (cond (eqb n 23) TooDeep Twice)) ≡ min 24 (max 20 n)
-    three true e l = omega (arith, eqb-true n 22 e)
-    three false e l = let h = eqb-false n 22 e in four (eqb n 23) refl (omega arith)
-
-    two : (x : Bool) → eqb n 21 ≡ x → 20 < n →
-        numberOf (cond x Unknown (cond (eqb n 22) NoTime (cond (eqb n 23) TooDeep Twice))) ≡ min 24 (max 20 n)
-    two true e l = omega (arith, eqb-true n 21 e)
-    two false e l = let h = eqb-false n 21 e in three (eqb n 22) refl (omega arith)
-
-    one : (x : Bool) → leb n 20 ≡ x →
-        numberOf (cond x Unfit (cond (eqb n 21) Unknown (cond (eqb n 22) NoTime (cond (eqb n 23) TooDeep Twice)))) ≡ min 24 (max 20 n)
-    one true e = omega (arith, leb-true n 20 e)
-    one false e = two (eqb n 21) refl (leb-false n 20 e)
 
 abbrev pub documentNumber : Fault → ℕ
 documentNumber f = numberOf (ruleOf (f .number))

@@ -20,12 +20,12 @@ use Rattle.texts.specs.Texts.{wholeText}
 use Rattle.texts.specs.Pays.{room}
 use Rattle.texts.specs.Wide.{whole-wide}
 use Rattle.verdict.specs.Verdict.{judged}
-use Rattle.kit.specs.declared.Table.{Table}
 use Rattle.kit.specs.Kit.{tableOf}
-use Rattle.reader.specs.declared.Read.{Read}
-use Rattle.reader.specs.declared.Answer.the-variants.{Sound, Refused, NoRoom}
+use Rattle.findings.specs.declared.Answer.the-variants.{Sound, Refused, NoRoom}
+use Rattle.findings.specs.declared.Table.{Table}
+use Rattle.findings.specs.Findings.{noTable, answered}
 use Rattle.reader.specs.Reader.{mostBytes, mostRows, treeRoom, rowsRoom, plainText, readFrom, endFaults, longFaults}
-use Rattle.reader.specs.Reader.{faultsIn, refusal, noTable, answered, answerBy, answerRead, answerPlain, readOf, enough, answer, Fitting}
+use Rattle.reader.specs.Reader.{faultsIn, refusal, answerBy, answerRead, answerPlain, readOf, enough, answer, Fitting}
 use Rattle.reader.specs.StoredRows.{Held, stored-held}
 
 -- ## What ends a reading

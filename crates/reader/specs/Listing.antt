@@ -1,8 +1,9 @@
 -- Promise 5: Listing 1 of source 000, as printed less its line numbers, gives Table A. The definitions compute it.
 use Rattle.common.specs.Words.{ℕ, true, false, List, [], _∷_, _++_, _≡_, refl, replicate}
 use Rattle.words.specs.Letters.{letters}
-use Rattle.kit.specs.declared.Table.{Table}
-use Rattle.reader.specs.declared.Answer.the-variants.{Sound}
+use Rattle.findings.specs.declared.Answer.the-variants.{Sound}
+use Rattle.findings.specs.declared.Table.{Table}
+use Rattle.findings.specs.Findings.{ruleOf, answered}
 use Rattle.common.specs.Table.{table}
 use Rattle.words.specs.Found.{sumBy, numberBy, padded}
 use Rattle.words.specs.Letters.{wordsBy, same}
@@ -37,7 +38,7 @@ use Rattle.ways.specs.Ways.{typeNamed, implementationOf, wayBy, way, firstIn, p
 use Rattle.verdict.specs.Verdict.{againFaults, threadFaults, outFaults, inFaults, twiceFaults, joinFaults, endFaults, linkFaults, rowFaults}
 use Rattle.verdict.specs.Verdict.{faultsBelow, processFaults, judged}
 use Rattle.kit.specs.Kit.{chosenBelow, threadsOf, queuesOf, position, receiverOf, joins, tableOf}
-use Rattle.reader.specs.Reader.{readFrom, faultsIn, faultsOf, ruleOf, answerBy, answerPlain, readOf, answered}
+use Rattle.reader.specs.Reader.{readFrom, faultsIn, faultsOf, answerBy, answerPlain, readOf}
 
 abbrev listing1 : List ℕ
 listing1 =

@@ -1,6 +1,6 @@
 -- AADL.md, section 6: a text's faults, and what it is answered with.
-use Rattle.common.specs.Words.{ℕ, _+_, _*_, _^_, _<_, _≤_, Bool, false, cond, _&&_, List, [], _∷_}
-use Rattle.common.specs.Words.{_++_, eqb, ltb, leb, length, take, replicate}
+use Rattle.common.specs.Words.{ℕ, _+_, _*_, _^_, _<_, _≤_, Bool, cond, _&&_, List, [], _∷_}
+use Rattle.common.specs.Words.{_++_, eqb, ltb, leb, length, take}
 use Rattle.plain.specs.Plain.{plainOf}
 use Rattle.tokens.specs.Tokens.{from}
 use Rattle.steps.specs.declared.Fault.{Fault}
@@ -11,28 +11,21 @@ use Rattle.rows.specs.declared.Reading.{Reading}
 use Rattle.rows.specs.Said.{Said, noProps}
 use Rattle.texts.specs.Texts.{wholeText}
 use Rattle.verdict.specs.Verdict.{judged}
-use Rattle.kit.specs.declared.Table.{Table}
-use Rattle.plan.specs.Limits.{taskLimit, queueLimit, cellLimit}
 use Rattle.index.specs.Index.{rowsIn, Indexed}
 use Rattle.rows.specs.Rows.{rowWords}
 use Rattle.ways.specs.Ways.{Known}
 use Rattle.kit.specs.Kit.{tableOf}
-use Rattle.reader.specs.declared.Rule.{Rule}
-use Rattle.reader.specs.declared.Rule.the-variants.{Unfit, Unknown, NoTime, TooDeep, Twice}
-use Rattle.reader.specs.declared.Refusal.{Refusal}
-use Rattle.reader.specs.declared.Answer.{Answer}
-use Rattle.reader.specs.declared.Answer.the-variants.{Sound, Refused, NoRoom}
-use Rattle.reader.specs.declared.Read.{Read}
+use Rattle.findings.specs.declared.Answer.the-variants.{Sound, Refused, NoRoom}
+use Rattle.findings.specs.declared.Read.{Read}
+use Rattle.findings.specs.declared.Refusal.{Refusal}
+use Rattle.findings.specs.declared.Table.{Table}
+use Rattle.findings.specs.Findings.{tooLong, ruleOf, noTable, answered}
 
 -- ## Faults
 
 -- "The text is bytes, at most 262,144"
 abbrev pub mostBytes : ℕ
 mostBytes = 262144
-
--- for people: the text is too long
-abbrev pub tooLong : ℕ
-tooLong = 0x340
 
 -- "Of a text of more than 262,144 bytes the first 262,144 are read as if they were all"
 abbrev pub plainText : List ℕ → List ℕ
@@ -59,34 +52,10 @@ faultsOf text = faultsIn (plainText text) (ltb mostBytes (length text))
 
 -- ## The answer
 
--- document 02's numbers
-abbrev pub numberOf : Rule → ℕ
-numberOf Unfit = 20
-numberOf Unknown = 21
-numberOf NoTime = 22
-numberOf TooDeep = 23
-numberOf Twice = 24
-
-unfoldable pub ruleOf : ℕ → Rule
-ruleOf n = cond (leb n 20) Unfit (cond (eqb n 21) Unknown (cond (eqb n 22) NoTime (cond (eqb n 23) TooDeep Twice)))
-
 abbrev pub refusal : Fault → Refusal
 refusal f = record { rule = ruleOf (f .number); place = f .place; why = f .why }
 
 -- "The least place decides, at one place the lower number": the table, or the refusal by the least fault
-abbrev pub noTable : Table
-noTable = record {
-  tasks = 0;
-  queues = 0;
-  period = replicate taskLimit 0;
-  deadline = replicate taskLimit 0;
-  receiver = replicate queueLimit 0;
-  sends = replicate cellLimit false;
-}
-
-abbrev pub answered : Answer → Table → Read
-answered a t = record { answer = a; table = t }
-
 unfoldable pub answerBy : Fault → Table → Read
 answerBy f t = cond (eqb (f .number) 0) (answered Sound t) (answered (Refused (refusal f)) noTable)
 

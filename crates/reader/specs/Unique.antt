@@ -1,6 +1,6 @@
 -- The contract of the reader's call determines its answer: two results that both meet it are equal.
 use Rattle.common.specs.Words.{ℕ, Bool, List, _≡_, sym, _∙_}
-use Rattle.reader.specs.declared.Read.{Read}
+use Rattle.findings.specs.declared.Read.{Read}
 use Rattle.reader.specs.Reader.{answer}
 
 abbrev pub ReadGives : Bool → List ℕ → Read → Type 0

@@ -1,12 +1,16 @@
 // From an AADL text to its table. A text of any bytes is answered, with any memory that is lent.
+use findings::Answer;
+use findings::Read;
+use findings::Refusal;
+use findings::TOO_LONG;
+use findings::no_table;
+use findings::rule_of;
 use index::CONNECTED;
 use index::DECLARED;
 use index::QUEUED;
 use index::build;
-use kit::Table;
 use kit::make_table;
 use plain::make_plain;
-use plan::Plan;
 use rows::Reading;
 use steps::Fault;
 use steps::Went;
@@ -20,39 +24,11 @@ ghost use Rattle.steps.specs.Lifted.{lift};
 ghost use Rattle.index.specs.Index.{rowsIn, Indexed};
 ghost use Rattle.ways.specs.Ways.{Known};
 ghost use Rattle.verdict.specs.Verdict.{judged};
-ghost use Rattle.reader.specs.declared.Answer.the-variants.{Refused};
-ghost use Rattle.reader.specs.Reader.{mostBytes, endFaults, longFaults, numberOf, ruleOf, refusal, noTable, answered, plainText};
-ghost use Rattle.reader.specs.Reader.{answerRead, answerPlain, enough, Fitting, Prepared};
+ghost use Rattle.findings.specs.declared.Answer.the-variants.{Refused};
+ghost use Rattle.findings.specs.Findings.{noTable, answered};
+ghost use Rattle.reader.specs.Reader.{mostBytes, endFaults, longFaults, refusal, plainText, answerRead, answerPlain, enough};
+ghost use Rattle.reader.specs.Reader.{Fitting, Prepared};
 ghost use Rattle.reader.specs.Unique.{ReadGives};
-
-// Document 02's refusals, in the order of their numbers, 20 to 24.
-pub enum Rule {
-    Unfit,
-    Unknown,
-    NoTime,
-    TooDeep,
-    Twice,
-}
-
-// The place is the number of bytes before the token. Why is a word for people: what was expected there, or what is wrong.
-pub struct Refusal {
-    pub rule: Rule,
-    pub place: usize,
-    pub why: usize,
-}
-
-// NoRoom is for memory that is too short for some text.
-pub enum Answer {
-    Sound,
-    Refused(Refusal),
-    NoRoom,
-}
-
-// The answer, and the table: that of all zeros where there is none.
-pub struct Read {
-    pub answer: Answer,
-    pub table: Table,
-}
 
 // How much of a text is read, and how much memory is enough for any text.
 pub const MOST_BYTES: usize = 262_144;
@@ -62,54 +38,6 @@ pub const ROWS_ROOM: usize = MOST_BYTES;
 pub const MOST_ROWS: usize = 29_127;
 
 pub const TREE_ROOM: usize = 58_256;
-
-// For people: the text is too long.
-pub const TOO_LONG: usize = 0x340;
-
-// Document 02's number of a rule.
-pub fn rule_number(rule: Rule) -> u8
-    ensures { λ r. ⌜ r ≡ numberOf rule ⌝ }
-{
-    match rule {
-        Rule::Unfit => 20,
-        Rule::Unknown => 21,
-        Rule::NoTime => 22,
-        Rule::TooDeep => 23,
-        Rule::Twice => 24,
-    }
-}
-
-fn rule_of(number: usize) -> Rule
-    ensures { λ r. ⌜ r ≡ ruleOf number ⌝ }
-{
-    if number <= 20 {
-        return Rule::Unfit;
-    }
-    if number == 21 {
-        return Rule::Unknown;
-    }
-    if number == 22 {
-        return Rule::NoTime;
-    }
-    if number == 23 {
-        return Rule::TooDeep;
-    }
-    Rule::Twice
-}
-
-// The table of all zeros.
-fn no_table() -> Table
-    ensures { λ r. ⌜ r ≡ noTable ⌝ }
-{
-    Table {
-        tasks: 0,
-        queues: 0,
-        period: [0; Plan::TASKS],
-        deadline: [0; Plan::TASKS],
-        receiver: [0; Plan::QUEUES],
-        sends: [false; Plan::CELLS],
-    }
-}
 
 fn refused(fault: Fault) -> Read
     ensures { λ r. ⌜ r ≡ answered (Refused (refusal fault)) noTable ⌝ }

@@ -2,9 +2,9 @@
 use crate::put::put_padded;
 use crate::wording;
 use crate::wording::WIDTH;
+use findings::TOO_LONG;
 use listing::least;
 use plain::make_plain;
-use reader::TOO_LONG;
 use tokens::Spot;
 use tokens::spot_at;
 use words::byte_at;

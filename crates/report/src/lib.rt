@@ -6,6 +6,8 @@ mod put; // put.rt: bytes behind each other
 mod wording; // wording.rt: the words for what was found and what was expected
 
 use expected::put_expected;
+use findings::Refusal;
+use findings::rule_number;
 use found::Point;
 use found::point_of;
 use found::put_found;
@@ -13,8 +15,6 @@ pub use planned::say_refused;
 use put::put;
 use put::put_filled;
 use put::put_rule;
-use reader::Refusal;
-use reader::rule_number;
 ghost use Rattle.common.specs.Words.{_≤_, length};
 
 // Enough for any line in words.

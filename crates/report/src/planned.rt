@@ -2,7 +2,7 @@
 use crate::put::NUMBERS;
 use crate::put::put_filled;
 use crate::put::put_rule;
-use kit::Table;
+use findings::Table;
 use plan::Plan;
 use plan::refusal::Refusal;
 use plan::refusal::rule_number;

@@ -2,10 +2,8 @@
 // it, and standard error the refusal in words. No contract can say what is read or written: all that matters is proved in `imports`,
 // `listing` and `report`. Where more comes than a text may have, one byte of it is read, which tells; the rest is left.
 use blocks::Stream;
+use findings::Table;
 use frames::answers::write_refusal;
-use imports::Answer;
-use imports::Import;
-use kit::Table;
 use libc::STDIN_FILENO;
 use listing::lines::LINES_ROOM;
 use listing::lines::write_table;
@@ -19,6 +17,8 @@ use reader::TREE_ROOM;
 use report::WORDS_ROOM;
 use report::say_refused;
 use report::say_unread;
+use tableplans::Answer;
+use tableplans::Import;
 
 const TEXT_ROOM: usize = MOST_BYTES + 1;
 
@@ -29,7 +29,7 @@ fn print_table(plan: Plan) {
 }
 
 // What the reader refuses.
-fn print_unread(text: &[u8], refusal: reader::Refusal) {
+fn print_unread(text: &[u8], refusal: findings::Refusal) {
     let mut out = [0u8; LINES_ROOM];
     let n = write_unread(&mut out, refusal);
     Stream::open().write_answers(&out, n);

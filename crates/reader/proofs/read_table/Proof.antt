@@ -1,9 +1,9 @@
 -- `reader::read_table`.
 use Rattle.common.specs.Words.{needs, true, sym, ap, _∙_, length, length-take-le, not-true, not-false}
-use Rattle.reader.specs.Reader.{answered}
-use Rattle.reader.specs.declared.Answer.the-variants.{NoRoom}
+use Rattle.findings.specs.declared.Answer.the-variants.{NoRoom}
+use Rattle.findings.specs.declared.Table.{Table}
+use Rattle.findings.specs.Findings.{answered}
 use Rattle.reader.specs.Laws.{fitting-plain, enough-plain, answer-none, answer-some}
-use Rattle.kit.specs.declared.Table.{Table}
 use Rattle.reader.proofs.read_table.Statement.{statement}
 use Rattle.reader.proofs.read_table.Tie as tie
 

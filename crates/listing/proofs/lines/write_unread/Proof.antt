@@ -2,7 +2,7 @@
 use Rattle.common.specs.Words.{needs, arith, sym}
 use Rattle.digits.specs.Numbers.{inBytes}
 use Rattle.digits.specs.NumberLaws.{bytes-length}
-use Rattle.reader.specs.Reader.{numberOf}
+use Rattle.findings.specs.Findings.{numberOf}
 use Rattle.listing.specs.Lines.{unreadBytes}
 use Rattle.listing.specs.Laws.{three-at, numbers-length}
 use Rattle.listing.proofs.lines.write_unread.Statement.{statement}

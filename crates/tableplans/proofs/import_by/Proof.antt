@@ -1,8 +1,8 @@
--- `imports::import_by`: the reader's answer decides.
+-- `tableplans::import_by`: the reader's answer decides.
 use Rattle.common.specs.Words.{needs}
-use Rattle.imports.specs.Imports.{importBy}
-use Rattle.imports.proofs.import_by.Statement.{statement}
-use Rattle.imports.proofs.import_by.Tie as tie
+use Rattle.tableplans.specs.TablePlans.{importBy}
+use Rattle.tableplans.proofs.import_by.Statement.{statement}
+use Rattle.tableplans.proofs.import_by.Tie as tie
 
 returns : tie.Need-returns
 unfolding importBy

@@ -1,7 +1,7 @@
--- `imports::planning_says`.
+-- `tableplans::planning_says`.
 use Rattle.common.specs.Words.{needs}
-use Rattle.imports.proofs.planning_says.Statement.{statement}
-use Rattle.imports.proofs.planning_says.Tie as tie
+use Rattle.tableplans.proofs.planning_says.Statement.{statement}
+use Rattle.tableplans.proofs.planning_says.Tie as tie
 
 returns-2 : tie.Need-returns-2
 returns-2 c = rw (c .before .answer .given .1)

@@ -1,8 +1,8 @@
--- `reader::rule_of`.
+-- `findings::rule_of`.
 use Rattle.common.specs.Words.{le-leb, lt-leb, eq-eqb, ne-eqb}
-use Rattle.reader.specs.Reader.{ruleOf}
-use Rattle.reader.proofs.rule_of.Statement.{statement}
-use Rattle.reader.proofs.rule_of.Tie as tie
+use Rattle.findings.specs.Findings.{ruleOf}
+use Rattle.findings.proofs.rule_of.Statement.{statement}
+use Rattle.findings.proofs.rule_of.Tie as tie
 
 returns : tie.Need-returns
 unfolding ruleOf

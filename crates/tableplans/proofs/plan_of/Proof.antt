@@ -1,8 +1,8 @@
--- `imports::plan_of`: planning on the square of the table's flat field.
+-- `tableplans::plan_of`: planning on the square of the table's flat field.
 use Rattle.common.specs.Words.{needs}
-use Rattle.imports.specs.Imports.{planned}
-use Rattle.imports.proofs.plan_of.Statement.{statement}
-use Rattle.imports.proofs.plan_of.Tie as tie
+use Rattle.tableplans.specs.TablePlans.{planned}
+use Rattle.tableplans.proofs.plan_of.Statement.{statement}
+use Rattle.tableplans.proofs.plan_of.Tie as tie
 
 returns : tie.Need-returns
 unfolding planned

@@ -1,7 +1,7 @@
--- `imports::with_plan`.
+-- `tableplans::with_plan`.
 use Rattle.common.specs.Words.{needs}
-use Rattle.imports.proofs.with_plan.Statement.{statement}
-use Rattle.imports.proofs.with_plan.Tie as tie
+use Rattle.tableplans.proofs.with_plan.Statement.{statement}
+use Rattle.tableplans.proofs.with_plan.Tie as tie
 
 returns : tie.Need-returns
 returns c = rw (c .planning-says .ensures, c .before .before .plan-of .ensures)

@@ -1,0 +1,2 @@
+-- The page of this crate's definitions.
+pub mod TablePlans
