@@ -1,15 +1,15 @@
 -- Which lines of the table of refusals each running call tests, in document 01's order: "Running calls test 7, 8, 14, 9, 11, 10, 12, 13,
--- as far as each applies". Of the state the lines see two numbers: `before`, its tick, and `unsent`, the job after the last one that the
--- task sent into the queue.
-use Rattle.common.specs.Words.{ℕ, _+_, _*_, _/_, Bool, not, _||_, List, [], _∷_, leb, ltb, eqb, length, getD}
-use Rattle.model.specs.Model.{Queue, due, receiverPeriod, deadlineOf, wantedFor}
-use Rattle.plan.specs.Limits.{taskLimit, lastTick, payloadBytes, slotBytes}
+-- as far as each applies". The lines 11, 10, 12 and 13 are the crate timing's; they see two numbers of the state: `before`, its tick, and
+-- `unsent`, the job after the last one that the task sent into the queue.
+use Rattle.common.specs.Words.{ℕ, _+_, _*_, _/_, not, List, [], _∷_, ltb, eqb, length, getD}
+use Rattle.model.specs.Model.{Queue, receiverPeriod, deadlineOf, wantedFor}
+use Rattle.plan.specs.Limits.{taskLimit, payloadBytes, slotBytes}
 use Rattle.plan.specs.Plan.{queueAt, slotsOf}
 use Rattle.plan.specs.Refusals.{Line, _gives_, unnamed}
 use Rattle.plan.specs.Rules.{soundPlan, connected}
 use Rattle.plan.specs.declared.Plan.{Plan}
-use Rattle.plan.specs.declared.refusal.Rule.the-variants.{UnsoundPlan, ShortMemory, NoSuchSender, TickBeforeState, PastLastTick}
-use Rattle.plan.specs.declared.refusal.Rule.the-variants.{JobOver, SentAlready, PayloadLength}
+use Rattle.plan.specs.declared.refusal.Rule.the-variants.{UnsoundPlan, ShortMemory, NoSuchSender, PayloadLength}
+use Rattle.timing.specs.Timing.{runningLines, wantingLines}
 
 -- 7 and 8, which every running call tests first
 abbrev pub groundLines : Plan → List ℕ → List Line → List Line
@@ -23,10 +23,6 @@ runningJob q i t = t / q .period i
 abbrev pub receivingJob : Queue → ℕ → ℕ
 receivingJob q t = t / receiverPeriod q
 
--- the tick that lies so many ticks after the release of a job that was released last at tick t, of a task with period P
-abbrev pub ending : ℕ → ℕ → ℕ → ℕ
-ending P span t = due P span (t / P)
-
 abbrev pub runningDeadline : Queue → ℕ → ℕ → ℕ
 runningDeadline q i t = deadlineOf q i (runningJob q i t)
 
@@ -34,25 +30,12 @@ runningDeadline q i t = deadlineOf q i (runningJob q i t)
 abbrev pub unsentAt : List ℕ → ℕ → ℕ → ℕ
 unsentAt sent q i = getD sent (q * taskLimit + i) 0
 
--- "a recorded send of this job or a later one counts as sent"
-abbrev pub sentAlready : ℕ → ℕ → Bool
-sentAlready unsent k = ltb k unsent
-
 -- ## Start: 7, 8
 
 abbrev pub startLines : Plan → List ℕ → List Line
 startLines p m = groundLines p m []
 
 -- ## Send: 7, 8, 14, 9, 11, 10, 12, 13
-
--- 11, 10, 12, 13, of a sender with period P and deadline D
-abbrev pub runningLines : ℕ → ℕ → ℕ → ℕ → ℕ → List Line
-runningLines before unsent P D t =
-    (ltb lastTick t || ltb lastTick (ending P D t)) gives unnamed PastLastTick
-    ∷ ltb t before gives unnamed TickBeforeState
-    ∷ leb (ending P D t) t gives unnamed JobOver
-    ∷ sentAlready unsent (t / P) gives unnamed SentAlready
-    ∷ []
 
 abbrev pub sendLines : ℕ → ℕ → Plan → List ℕ → ℕ → ℕ → ℕ → List ℕ → List Line
 sendLines before unsent p m q i t payload =
@@ -62,14 +45,6 @@ sendLines before unsent p m q i t payload =
     ∷ runningLines before unsent (queueAt p q .period i) (queueAt p q .deadline i) t)
 
 -- ## Receive: 7, 8, 9, 11, 10, 12
-
--- 11, 10, 12, of a receiver with period P, whose job wants its messages for so many ticks
-abbrev pub wantingLines : ℕ → ℕ → ℕ → ℕ → List Line
-wantingLines before P wanted t =
-    ltb lastTick t gives unnamed PastLastTick
-    ∷ ltb t before gives unnamed TickBeforeState
-    ∷ leb (ending P wanted t) t gives unnamed JobOver
-    ∷ []
 
 abbrev pub receiveLines : ℕ → Plan → List ℕ → ℕ → ℕ → List Line
 receiveLines before p m q t =

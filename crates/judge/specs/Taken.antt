@@ -17,7 +17,8 @@ use Rattle.plan.specs.Verdicts.{verdict, Passed, clear-passed}
 use Rattle.plan.specs.declared.Plan.{Plan}
 use Rattle.plan.specs.declared.refusal.Rule.the-variants.{ShortMemory}
 use Rattle.plan.specs.declared.refusal.Verdict.{Verdict}
-use Rattle.judge.specs.Lines.{groundLines, startLines, runningLines, sendLines, receiveLines, runningJob, runningDeadline, receivingJob}
+use Rattle.timing.specs.Timing.{runningLines}
+use Rattle.judge.specs.Lines.{groundLines, startLines, sendLines, receiveLines, runningJob, runningDeadline, receivingJob}
 
 -- the two parts of a test that failed
 or-left : (a b : Bool) → (a || b) ≡ false → a ≡ false

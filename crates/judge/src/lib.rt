@@ -1,29 +1,20 @@
-// The tests of the running calls, in the order in which document 01 has them: the first that fails says the refusal. They are inner
-// functions: whether the plan is sound (rule 7) is the caller's to say, since a caller that keeps its plan needs to test it only once.
-// What is reckoned for a test fits its type, because the tests before it have passed. What sends and receives ask is lent the columns of a
-// plan, all of them, because the contract is about the plan that they make (`lentPlan`), and the column of a state that the test looks at.
+// The tests of the running calls, in the order in which document 01 has them: the first that fails says the refusal. The last of them, rules
+// 11, 10, 12 and 13, are the crate `timing`'s. All are inner functions: whether the plan is sound (rule 7) is the caller's to say, since a
+// caller that keeps its plan needs to test it only once. What is reckoned for a test fits its type, because the tests before it have passed.
+// What sends and receives ask is lent the columns of a plan, all of them, because the contract is about the plan that they make (`lentPlan`),
+// and the column of a state that the test looks at.
 use calendar::Job;
 use calendar::Tick;
 use plan::Plan;
-use plan::refusal::Refusal;
 use plan::refusal::Rule;
 use plan::refusal::Verdict;
+use timing::refused;
 ghost use Rattle.common.specs.Words.{_≡_, true, _+_, _-_, _*_, _≤_, ltb, getD};
-ghost use Rattle.calendar.specs.Calendar.{tick};
-ghost use Rattle.plan.specs.Limits.{queueLimit, longestPeriod, mostSlots, lastTick, slotBytes};
-ghost use Rattle.plan.specs.Refusals.{unnamed};
+ghost use Rattle.plan.specs.Limits.{queueLimit, mostSlots, slotBytes};
 ghost use Rattle.plan.specs.Plan.{lentPlan};
 ghost use Rattle.plan.specs.Rules.{soundPlan};
 ghost use Rattle.plan.specs.Verdicts.{verdict};
-ghost use Rattle.plan.specs.declared.refusal.Verdict.{Verdict};
-ghost use Rattle.judge.specs.Lines.{ending, unsentAt, startLines, runningLines, sendLines, wantingLines, receiveLines};
-
-// None of the running calls' refusals names a row.
-fn refused(rule: Rule) -> Verdict
-    ensures { λ r. ⌜ r ≡ Verdict.Refused (unnamed rule) ⌝ }
-{
-    Verdict::Refused(Refusal { rule, row: 0 })
-}
+ghost use Rattle.judge.specs.Lines.{unsentAt, startLines, sendLines, receiveLines};
 
 // The slots of all queues of a plan, from its columns of sizes and places: the last queue's are the last in memory.
 pub fn slots_of<'a>(
@@ -58,39 +49,6 @@ pub fn judge_start(plan: Plan, memory: &[u8]) -> Verdict
 {
     if short(memory.len(), plan.queues, &plan.size, &plan.place) {
         return refused(Rule::ShortMemory);
-    }
-    Verdict::Clear
-}
-
-// The tick that lies `span` ticks behind the release of the job that was released last.
-fn end_of_job(period: u64, span: u64, at: Tick) -> Tick
-    requires { ⌜ (1 ≤ period) × (span ≤ longestPeriod) × (at .0 ≤ lastTick) ⌝ }
-    ensures { λ r. ⌜ r ≡ tick (ending period span (at .0)) ⌝ }
-{
-    let job = calendar::job_at(period, at);
-    calendar::deadline_of(period, span, job)
-}
-
-// Rules 11, 10, 12, 13 of a sender: `before` is the state's tick, and `unsent` the job after the last one that it sent.
-fn judge_running(period: u64, deadline: u64, at: Tick, before: Tick, unsent: Job) -> Verdict
-    requires { ⌜ (1 ≤ period) × (deadline ≤ longestPeriod) ⌝ }
-    ensures { λ r. ⌜ r ≡ verdict (runningLines (before .0) (unsent .0) period deadline (at .0)) ⌝ }
-{
-    if Plan::LAST_TICK < at.0 {
-        return refused(Rule::PastLastTick);
-    }
-    let end = end_of_job(period, deadline, at);
-    if Plan::LAST_TICK < end.0 {
-        return refused(Rule::PastLastTick);
-    }
-    if at.0 < before.0 {
-        return refused(Rule::TickBeforeState);
-    }
-    if end.0 <= at.0 {
-        return refused(Rule::JobOver);
-    }
-    if at.0 / period < unsent.0 {
-        return refused(Rule::SentAlready);
     }
     Verdict::Clear
 }
@@ -133,25 +91,7 @@ pub fn judge_send<'a>(
         return refused(Rule::NoSuchSender);
     }
     let unsent = Job(sent[queue * Plan::TASKS + task]);
-    judge_running(period[task], deadline[task], at, before, unsent)
-}
-
-// Rules 11, 10, 12 of a receiver, whose job wants its messages for so many ticks: `before` is the state's tick.
-fn judge_wanting(period: u64, wanted: u64, at: Tick, before: Tick) -> Verdict
-    requires { ⌜ (1 ≤ period) × (wanted ≤ longestPeriod) ⌝ }
-    ensures { λ r. ⌜ r ≡ verdict (wantingLines (before .0) period wanted (at .0)) ⌝ }
-{
-    if Plan::LAST_TICK < at.0 {
-        return refused(Rule::PastLastTick);
-    }
-    if at.0 < before.0 {
-        return refused(Rule::TickBeforeState);
-    }
-    let until = end_of_job(period, wanted, at);
-    if until.0 <= at.0 {
-        return refused(Rule::JobOver);
-    }
-    Verdict::Clear
+    timing::judge_running(period[task], deadline[task], at, before, unsent)
 }
 
 // Rules 7, 8, 9, 11, 10, 12. `before` is the state's tick.
@@ -186,5 +126,5 @@ pub fn judge_receive<'a>(
         return refused(Rule::NoSuchSender);
     }
     let row = receiver[queue];
-    judge_wanting(period[row], calendar::wanted_for(deadline[row]), at, before)
+    timing::judge_wanting(period[row], calendar::wanted_for(deadline[row]), at, before)
 }

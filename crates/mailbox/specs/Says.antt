@@ -6,7 +6,7 @@ use Rattle.plan.specs.Plan.{queueAt, slotsOf}
 use Rattle.plan.specs.Says.{no}
 use Rattle.plan.specs.Rules.{soundPlan, connected}
 use Rattle.mailbox.specs.Types.{Plan, State, Started, Sent, Received}
-use Rattle.judge.specs.Lines.{sentAlready}
+use Rattle.timing.specs.Timing.{sentAlready}
 use Rattle.running.specs.Calls as running
 use Rattle.mailbox.specs.Calls.{startLines, startAnswer, sendLines, runningJob, runningDeadline, runningNumber, slotIn}
 use Rattle.mailbox.specs.Calls.{unsentAt, sendAnswer, receiveLines, receivingJob, look, acceptedReceive, startedSays, sentSays, receivedSays}

@@ -1,5 +1,5 @@
-// Receive: a look at the receiver's next message, which changes nothing, and then a step on from the answer. The columns are lent, as to a
-// send.
+// Receive: a look at the receiver's next message, which changes nothing, and then a step on from the answer, which is the crate `stepping`.
+// The columns are lent, as to a send.
 use calendar::Number;
 use calendar::Tick;
 use plan::Plan;
@@ -7,14 +7,11 @@ use plan::refusal::Verdict;
 use running::Received;
 use running::ReceivedAt;
 use running::Remembered;
-ghost use Rattle.common.specs.Words.{_≡_, _+_, _<_, _≤_, getD, set};
-ghost use Rattle.calendar.specs.Calendar.{tick};
-ghost use Rattle.plan.specs.Limits.{queueLimit};
+ghost use Rattle.common.specs.Words.{_≡_, getD};
 ghost use Rattle.plan.specs.Plan.{lentPlan};
 ghost use Rattle.plan.specs.Rules.{soundPlan};
 ghost use Rattle.window.specs.Window.{Remembers};
-ghost use Rattle.running.specs.Calls.{look, readTick, readPlaces, ReceiveLeaves};
-ghost use Rattle.running.specs.Stepping.{mostNumber, CanStep};
+ghost use Rattle.running.specs.Calls.{look, ReceiveLeaves};
 
 // What a look answers, and the window that it looked into.
 struct Looked {
@@ -105,35 +102,6 @@ fn look_on<'a>(
     }
 }
 
-// The queue is read past a number, at a tick.
-fn read_past(reading: &mut [u64; Plan::QUEUES], queue: usize, at: Tick, number: Number) -> Tick
-    requires { ⌜ (queue < queueLimit) × (number .0 ≤ mostNumber) ⌝ }
-    ensures { λ r. ⌜ (r ≡ at) × (now (reading .exit) ≡ set (now (reading .entry)) queue (number .0 + 1)) ⌝ }
-{
-    reading[queue] = number.0 + 1;
-    at
-}
-
-// Steps on from an answer: past the number of a message or a gap. Gives the state's tick after it, which an empty answer sets too.
-fn step_on(
-    reading: &mut [u64; Plan::QUEUES],
-    queue: usize,
-    at: Tick,
-    before: Tick,
-    answer: Received,
-) -> Tick
-    requires { ⌜ CanStep queue answer ⌝ }
-    ensures { λ r. ⌜ (r ≡ tick (readTick answer (before .0) (at .0)))
-        × (now (reading .exit) ≡ readPlaces answer (now (reading .entry)) queue) ⌝ }
-{
-    match answer {
-        Received::Message(number, _) => read_past(reading, queue, at, number),
-        Received::Gap(number, _) => read_past(reading, queue, at, number),
-        Received::Empty => at,
-        Received::Refused(_) => before,
-    }
-}
-
 // A receive: `sound` says whether the plan is, `before` is the state's tick, and `reading` its column of reading places.
 pub fn receive_on<'a>(
     sound: bool,
@@ -180,7 +148,7 @@ pub fn receive_on<'a>(
     );
     let answer = looked.answer;
     let seen = looked.remembered;
-    let tick = step_on(reading, queue, at, before, answer);
+    let tick = stepping::step_on(reading, queue, at, before, answer);
     ReceivedAt {
         answer,
         tick,

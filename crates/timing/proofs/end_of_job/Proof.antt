@@ -3,8 +3,8 @@ use Rattle.common.specs.Words.{ap, _∙_, div-mul-le-self, arith, needs}
 use Rattle.model.specs.Model.{due}
 use Rattle.calendar.specs.Calendar.{tick}
 use Rattle.calendar.specs.declared.Job.{Job}
-use Rattle.judge.proofs.end_of_job.Statement.{statement}
-use Rattle.judge.proofs.end_of_job.Tie as tie
+use Rattle.timing.proofs.end_of_job.Statement.{statement}
+use Rattle.timing.proofs.end_of_job.Tie as tie
 
 deadline-of-requires : tie.Need-deadline-of-requires
 deadline-of-requires c κs =

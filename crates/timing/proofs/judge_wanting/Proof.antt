@@ -2,8 +2,8 @@
 use Rattle.common.specs.Words.{ap, needs}
 use Rattle.common.specs.Tests.{tests}
 use Rattle.calendar.specs.declared.Tick.{Tick}
-use Rattle.judge.proofs.judge_wanting.Statement.{statement}
-use Rattle.judge.proofs.judge_wanting.Tie as tie
+use Rattle.timing.proofs.judge_wanting.Statement.{statement}
+use Rattle.timing.proofs.judge_wanting.Tie as tie
 
 returns : tie.Need-returns
 returns c = search (tests, c .refused .ensures)

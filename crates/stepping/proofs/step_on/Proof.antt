@@ -1,7 +1,7 @@
--- `receiving::step_on`: a clause of the definition for each kind of answer.
+-- `step_on`: a clause of the definition for each kind of answer.
 use Rattle.common.specs.Words.{refl, needs}
-use Rattle.receiving.proofs.step_on.Statement.{statement}
-use Rattle.receiving.proofs.step_on.Tie as tie
+use Rattle.stepping.proofs.step_on.Statement.{statement}
+use Rattle.stepping.proofs.step_on.Tie as tie
 
 read-past-requires : tie.Need-read-past-requires
 read-past-requires c κs = rw (c .before .before .answer .given .1) at (c .before .before .before .before .pre)
