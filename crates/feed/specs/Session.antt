@@ -1,7 +1,7 @@
 -- What feeding means: the lines of the text that was used are answered one after another, in whatever blocks the text came and however
 -- often the room for answers ran short.
 use Rattle.common.specs.Words.{ℕ, suc, _+_, _-_, _<_, _≤_, arith, Bool, true, false, List, [], _∷_, _++_, map, append-nil, _≡_, refl, sym}
-use Rattle.common.specs.Words.{ap, _∙_}
+use Rattle.common.specs.Words.{cond, ap, _∙_}
 use Rattle.common.specs.Words.{eqb, ltb, length, take, drop, length-append, length-drop, le-ltb, ltb-true}
 use Rattle.desk.specs.Desk.{Turn}
 use Rattle.lines.specs.Lines.{lineFeed, cut, fed, ended}
@@ -37,26 +37,42 @@ line-answered w c b x f e a =
 take-one : (n b : ℕ) (bs : List ℕ) → take (1 + n) (b ∷ bs) ≡ b ∷ take n bs
 take-one n b bs = let e : 1 + n ≡ suc n = omega arith in rw e
 
+-- the same of what a call uses of the block that begins with this byte
+byte-used :
+    (w : Console) (c : List ℕ) (b : ℕ) (bs : List ℕ) (f : Feeding) → eqb b lineFeed ≡ false →
+    Answered w (cut (c ++ (b ∷ []))) (take (f .taken) bs) f → Answered w c (take (1 + f .taken) (b ∷ bs)) (onward 1 [] f)
+byte-used w c b bs f e a = rw (take-one (f .taken) b bs) (byte-answered w c b (take (f .taken) bs) f e a)
+
+line-used :
+    (w : Console) (c : List ℕ) (b : ℕ) (bs : List ℕ) (f : Feeding) → eqb b lineFeed ≡ true →
+    Answered (next w c) [] (take (f .taken) bs) f → Answered w c (take (1 + f .taken) (b ∷ bs)) (onward 1 (reply w c) f)
+line-used w c b bs f e a = rw (take-one (f .taken) b bs) (line-answered w c b (take (f .taken) bs) f e a)
+
+-- and of one of two calls, by a test
+used-by :
+    (w : Console) (c t : List ℕ) (x : Bool) (f g : Feeding) → (x ≡ true → Answered w c (take (f .taken) t) f) →
+    (x ≡ false → Answered w c (take (g .taken) t) g) → Answered w c (take (cond x f g .taken) t) (cond x f g)
+used-by w c t true f g p q = p refl
+used-by w c t false f g p q = q refl
+
 going-answered : (w : Console) (c t : List ℕ) (room : ℕ) → Answered w c (take (going w c t room .taken) t) (going w c t room)
 unfolding going
 going-answered w c [] room = none-answered w c
 going-answered w c (b ∷ bs) room =
-    go (eqb b lineFeed) refl (ltb (room - length (reply w c)) enough) refl (going-answered (next w c) [] bs (room - length (reply w c)))
-    (going-answered w (cut (c ++ (b ∷ []))) bs room)
+    used-by w c (b ∷ bs) (eqb b lineFeed) (onward 1 (reply w c) ended-here) (onward 1 [] goes-on)
+    (λ e. line-used w c b bs ended-here e
+    (used-by (next w c) [] bs (ltb left enough) (still (next w c) []) (going (next w c) [] bs left) (λ s. none-answered (next w c) [])
+    (λ s. going-answered (next w c) [] bs left)))
+    (λ e. byte-used w c b bs goes-on e (going-answered w (cut (c ++ (b ∷ []))) bs room))
   where
+    left : ℕ
+    left = room - length (reply w c)
+
     ended-here : Feeding
-    ended-here = going (next w c) [] bs (room - length (reply w c))
+    ended-here = cond (ltb left enough) (still (next w c) []) (going (next w c) [] bs left)
 
     goes-on : Feeding
     goes-on = going w (cut (c ++ (b ∷ []))) bs room
-
-    go :
-        (e : Bool) → eqb b lineFeed ≡ e → (s : Bool) → ltb (room - length (reply w c)) enough ≡ s →
-        Answered (next w c) [] (take (ended-here .taken) bs) ended-here → Answered w (cut (c ++ (b ∷ []))) (take (goes-on .taken) bs) goes-on →
-        Answered w c (take (going w c (b ∷ bs) room .taken) (b ∷ bs)) (going w c (b ∷ bs) room)
-    go true e true s f g = rw (e, s) (line-answered w c b [] (still (next w c) []) e (none-answered (next w c) []))
-    go true e false s f g = rw (e, s, take-one (ended-here .taken) b bs) (line-answered w c b (take (ended-here .taken) bs) ended-here e f)
-    go false e s r f g = rw (e, take-one (goes-on .taken) b bs) (byte-answered w c b (take (goes-on .taken) bs) goes-on e g)
 
 pub feed-answered : (w : Console) (c t : List ℕ) (room : ℕ) → Answered w c (take (feedOf w c t room .taken) t) (feedOf w c t room)
 unfolding feedOf
