@@ -13,7 +13,8 @@ use Rattle.index.specs.Laws.{keys-of-length, key-of}
 use Rattle.ways.specs.Ways.{cell}
 use Rattle.verdict.specs.Verdict.{none}
 use Rattle.plan.specs.Limits.{taskLimit, queueLimit, cellLimit}
-use Rattle.kit.specs.Kit.{chosenBelow, threadsOf, queuesOf, timeOf, receiverOf, joins, atOr, sendsAt, tableOf}
+use Rattle.chosen.specs.Chosen.{chosenBelow, threadsOf, queuesOf, atOr}
+use Rattle.kit.specs.Kit.{timeOf, receiverOf, joins, sendsAt, tableOf}
 
 -- ## What is chosen: exactly what is so, in its order
 

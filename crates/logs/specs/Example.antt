@@ -10,7 +10,8 @@ use Rattle.plan.specs.Limits.{lastTick}
 use Rattle.plan.specs.Plan.{queueAt}
 use Rattle.plan.specs.Rules.{oneTo, countsGood, taskGood, onlyTasksSend, queueGood, placeGood, placesGood, checkedPlan, soundPlan}
 use Rattle.tables.specs.Table.{tabled}
-use Rattle.planning.specs.Planning.{longQueue, sized, tableJudged, planOf}
+use Rattle.places.specs.Places.{longQueue}
+use Rattle.planning.specs.Planning.{sized, tableJudged, planOf}
 use Rattle.slots.specs.Slots.{bytesOf, numberFrom, stored, cleared}
 use Rattle.running.specs.Calls as running
 use Rattle.running.specs.View.{viewOf}

@@ -14,8 +14,9 @@ use Rattle.plan.specs.Rules.{badTask, badQueue}
 use Rattle.plan.specs.Refusals.{Line}
 use Rattle.plan.specs.Verdicts.{Passed, Stopped, passed-or-stopped, passed-good, stopped-refused}
 use Rattle.tables.specs.Table.{tabled}
+use Rattle.places.specs.Places.{longQueue}
 use Rattle.planning.specs.AcceptedPlan.{plan-lines}
-use Rattle.planning.specs.Planning.{longQueue, firstLines, tableLines, refusedPlan, acceptedPlan, planOf}
+use Rattle.planning.specs.Planning.{firstLines, tableLines, refusedPlan, acceptedPlan, planOf}
 use Rattle.mailbox.specs.Calls.{startLines, startAnswer, sendLines, sendAnswer, receiveLines, look, runningJob, receivingJob}
 use Rattle.mailbox.specs.Refused.{start-refused, send-refused, receive-refused}
 use Rattle.history.specs.History.{World, send, acceptedAs, ofGap}

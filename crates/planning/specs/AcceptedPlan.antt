@@ -20,10 +20,11 @@ use Rattle.plan.specs.declared.Plan.{Plan}
 use Rattle.plan.specs.declared.refusal.Refusal.{Refusal}
 use Rattle.sizing.specs.Cycle.{cycleShort, messagesFew}
 use Rattle.tables.specs.Table.{tabled}
-use Rattle.planning.specs.Planning.{longQueue, leastSize, leastSizes, sized, refusedPlan, firstLines, tableLines, acceptedPlan, tableJudged}
-use Rattle.planning.specs.Planning.{planOf}
+use Rattle.places.specs.Places.{longQueue, leastSize, leastSizes}
+use Rattle.places.specs.Laws.{long-within, size-at}
+use Rattle.planning.specs.Planning.{sized, refusedPlan, firstLines, tableLines, acceptedPlan, tableJudged, planOf}
 pub use Rattle.planning.specs.Planning.{Made}
-use Rattle.planning.specs.TableLaws.{table-checked, long-within, size-at}
+use Rattle.planning.specs.TableLaws.{table-checked}
 use Rattle.planning.specs.declared.Planned.{Planned}
 use Rattle.planning.specs.declared.Answer.{Answer}
 

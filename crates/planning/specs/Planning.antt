@@ -1,9 +1,9 @@
 -- What planning answers and the plan that it makes, on every input: rules 1 to 6 in document 01's order, the least sizes, and the
 -- places as running sums.
-use Rattle.common.specs.Words.{ℕ, _<_, _≤_, Bool, true, not, _&&_, List, [], _∷_, _≡_, ltb, getD}
-use Rattle.common.specs.Terms.{only, sum, firstBad, table}
+use Rattle.common.specs.Words.{ℕ, _<_, _≤_, Bool, true, not, _&&_, List, [], _∷_, _≡_, ltb}
+use Rattle.common.specs.Terms.{sum}
 use Rattle.model.specs.Model.{hyperperiod, slots}
-use Rattle.plan.specs.Limits.{queueLimit, longestHyperperiod, mostSlots}
+use Rattle.plan.specs.Limits.{longestHyperperiod, mostSlots}
 use Rattle.plan.specs.Queues.{zeros, queueAt, sizeAt}
 use Rattle.plan.specs.Rules.{countsGood, badTask, badQueue, soundPlan}
 use Rattle.plan.specs.Refusals.{Line, _gives_, named, unnamed, judged}
@@ -11,27 +11,13 @@ use Rattle.plan.specs.declared.Plan.{Plan}
 use Rattle.plan.specs.declared.refusal.Refusal.{Refusal}
 use Rattle.plan.specs.declared.refusal.Rule.the-variants.{TaskOrQueueCount, PeriodOrDeadline, ReceiverOrSender}
 use Rattle.plan.specs.declared.refusal.Rule.the-variants.{HyperperiodTooLong, TooManyMessages, TooManySlots}
-use Rattle.sizing.specs.Cycle.{cycleShort, messagesFew}
+use Rattle.sizing.specs.Cycle.{cycleShort}
 use Rattle.tables.specs.Table.{tabled}
+use Rattle.places.specs.Places.{longQueue, leastSize, leastSizes, runningPlaces}
 use Rattle.planning.specs.declared.Planned.{Planned}
 use Rattle.planning.specs.declared.Answer.{Answer}
 
--- of a table t whose rows have passed rules 1 to 3:
--- "then 4 before 5 queue by queue": the first queue that breaks one of them, and the count where none does
-unfoldable pub longQueue : Plan → ℕ
-longQueue t = firstBad (λ q. cycleShort t q && messagesFew t q) (t .queues)
-
--- "The plan gives each queue its least fit L."
-abbrev pub leastSize : Plan → ℕ → ℕ
-leastSize t q = slots (queueAt t q)
-
-abbrev pub leastSizes : Plan → List ℕ
-leastSizes t = table (λ q. only (ltb q (t .queues)) (leastSize t q)) queueLimit
-
--- "Queues lie in memory in table order, without space between."
-abbrev pub runningPlaces : ℕ → List ℕ → List ℕ
-runningPlaces queues sizes = table (λ q. only (ltb q queues) (sum (λ r. getD sizes r 0) q)) queueLimit
-
+-- the plan of a table t whose rows have passed rules 1 to 3
 unfoldable pub sized : Plan → Plan
 sized t = record {
   tasks = t .tasks;

@@ -7,7 +7,8 @@ use Rattle.plan.specs.Says.{Said, refusedSays, no}
 use Rattle.plan.specs.Verdicts.{judged-map}
 use Rattle.sizing.specs.Cycle.{cycleShort}
 use Rattle.tables.specs.Table.{tabled}
-use Rattle.planning.specs.Planning.{longQueue, leastSize, refusedPlan, firstLines, tableLines, acceptedPlan, planOf}
+use Rattle.places.specs.Places.{longQueue, leastSize}
+use Rattle.planning.specs.Planning.{refusedPlan, firstLines, tableLines, acceptedPlan, planOf}
 use Rattle.planning.specs.AcceptedPlan.{plan-lines}
 use Rattle.planning.specs.declared.Planned.{Planned}
 use Rattle.planning.specs.declared.Answer.{Answer}

@@ -1,22 +1,16 @@
 -- What the table keeps of its rows: counted rows as they were handed in, zeros beyond. So rules 1 to 3, tested on what was handed in, hold
 -- of the table.
-use Rattle.common.specs.Words.{ℕ, _+_, _*_, _/_, _%_, _<_, _≤_, arith, Bool, true, false, _&&_, List, ⊎-elim, _≡_, sym, _∙_, lt-ltb}
-use Rattle.common.specs.Words.{le-ltb}
-use Rattle.common.specs.Words.{ltb-true, ltb, getD, List·getD-eq-default}
+use Rattle.common.specs.Words.{ℕ, _+_, _*_, _/_, _%_, _<_, _≤_, arith, Bool, true, false, List, ⊎-elim, _≡_, sym, _∙_, lt-ltb, le-ltb}
+use Rattle.common.specs.Words.{getD, List·getD-eq-default}
 use Rattle.common.specs.Tests.{lt-or-le}
-use Rattle.common.specs.Totals.{only, sum, only-most, sum-ext}
 use Rattle.common.specs.Table.{table-at, table-length}
-use Rattle.common.specs.Rows.{firstBad-is, firstBad-same}
+use Rattle.common.specs.Rows.{firstBad-same}
 use Rattle.plan.specs.Limits.{taskLimit, queueLimit, cellLimit}
 use Rattle.plan.specs.Square.{entry}
 use Rattle.plan.specs.Rules.{countsGood, taskGood, queueGood, badTask, badQueue}
 use Rattle.plan.specs.Facts.{counts-iff}
-use Rattle.plan.specs.Sound.{Checked, checked-of, checked-usable}
-use Rattle.plan.specs.declared.Plan.{Plan}
-use Rattle.sizing.specs.Bounds.{largestSize, slots-small}
-use Rattle.sizing.specs.Cycle.{cycleShort, messagesFew}
+use Rattle.plan.specs.Sound.{Checked, checked-of}
 use Rattle.tables.specs.Table.{valueWithin, counted, flatEntry, flat, tabled}
-use Rattle.planning.specs.Planning.{longQueue, leastSize, leastSizes}
 
 pub counted-at : (limit n : ℕ) (values : List ℕ) (i : ℕ) → n ≤ limit → i < n → getD (counted limit n values) i 0 ≡ getD values i 0
 counted-at limit n values i f l = table-at (valueWithin n values) limit i 0 (omega arith) ∙ rw (lt-ltb i n l)
@@ -55,20 +49,3 @@ module _ (tasks queues : ℕ) (period deadline receiver : List ℕ) (square : Li
       (λ i l. rw (counted-at taskLimit tasks period i (counts .0 .1) l, counted-at taskLimit tasks deadline i (counts .0 .1) l)) ∙ t)
       (firstBad-same _ (λ q. queueGood tasks (getD receiver q 0) (entry square q)) queues
       (λ q l. rw (counted-at queueLimit queues receiver q (counts .1 .1) l)) ∙ u)
-
-pub long-within : (t : Plan) → longQueue t ≤ t .queues
-unfolding longQueue
-long-within t = firstBad-is (λ q. cycleShort t q && messagesFew t q) (t .queues) .within
-
-module _ {t : Plan} (c : Checked t) where
-  pub size-at : (q : ℕ) → q < t .queues → getD (leastSizes t) q 0 ≡ leastSize t q
-  size-at q l =
-      table-at (λ q. only (ltb q (t .queues)) (leastSize t q)) queueLimit q 0 (omega (arith, c .queues-fit)) ∙ rw (lt-ltb q (t .queues) l)
-
-  pub sizes-small : (q : ℕ) → q < queueLimit → getD (leastSizes t) q 0 ≤ largestSize
-  sizes-small q l =
-      rw (table-at (λ q. only (ltb q (t .queues)) (leastSize t q)) queueLimit q 0 l)
-      (only-most (ltb q (t .queues)) _ largestSize (λ h. slots-small (checked-usable c q (ltb-true q (t .queues) h))))
-
-  pub total-is : sum (λ q. getD (leastSizes t) q 0) (t .queues) ≡ sum (leastSize t) (t .queues)
-  total-is = sum-ext _ _ (t .queues) size-at

@@ -1,15 +1,16 @@
 // Planning: from a task table to a plan with the least number of slots, or to the first refusal of rules 1 to 6.
-mod places; // places.rt: the sizes and places of all queues
-
 use places::first_long;
-use places::sized;
+use places::places_of;
+use places::sizes_of;
+use places::total_of;
 use plan::Plan;
 use plan::refusal::Refusal;
 use plan::refusal::Rule;
 ghost use Rattle.common.specs.Words.{_≡_};
 ghost use Rattle.plan.specs.Refusals.{named};
 ghost use Rattle.plan.specs.Sound.{Checked};
-ghost use Rattle.planning.specs.Planning.{refusedPlan, tableJudged};
+ghost use Rattle.places.specs.Places.{longQueue};
+ghost use Rattle.planning.specs.Planning.{refusedPlan, slotsJudged, tableJudged};
 ghost use Rattle.planning.specs.Unique.{PlanGives};
 
 pub enum Answer {
@@ -29,6 +30,25 @@ fn refused(rule: Rule, row: usize) -> Planned
     Planned {
         answer: Answer::Refused(Refusal { rule, row }),
         plan: Plan::zeros(),
+    }
+}
+
+// Rule 6, and the plan with its sizes and places.
+fn sized(table: Plan) -> Planned
+    requires { ⌜ Checked table × (longQueue table ≡ table .queues) ⌝ }
+    ensures { λ r. ⌜ r ≡ slotsJudged table ⌝ }
+{
+    let sizes = sizes_of(table);
+    if Plan::MOST_SLOTS < total_of(table.queues, sizes) {
+        return refused(Rule::TooManySlots, 0);
+    }
+    let places = places_of(table.queues, sizes);
+    let mut plan = table;
+    plan.size = sizes;
+    plan.place = places;
+    Planned {
+        answer: Answer::Accepted,
+        plan,
     }
 }
 

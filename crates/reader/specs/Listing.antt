@@ -37,7 +37,8 @@ use Rattle.index.specs.Index.{rowsIn, declaredKey, keyBy, keysOf}
 use Rattle.ways.specs.Ways.{typeNamed, implementationOf, wayBy, way, firstIn, propertyOf, portOf, endsOf}
 use Rattle.verdict.specs.Verdict.{againFaults, threadFaults, outFaults, inFaults, twiceFaults, joinFaults, endFaults, linkFaults, rowFaults}
 use Rattle.verdict.specs.Verdict.{faultsBelow, processFaults, judged}
-use Rattle.kit.specs.Kit.{chosenBelow, threadsOf, queuesOf, position, receiverOf, joins, tableOf}
+use Rattle.chosen.specs.Chosen.{chosenBelow, threadsOf, queuesOf}
+use Rattle.kit.specs.Kit.{position, receiverOf, joins, tableOf}
 use Rattle.reader.specs.Reader.{readFrom, faultsIn, faultsOf, answerBy, answerPlain, readOf}
 
 abbrev listing1 : List ℕ

@@ -1,8 +1,9 @@
 -- `kit::receiver_at`: where there are so many, where the receiving thread stands.
 use Rattle.common.specs.Words.{needs, _∙_}
 use Rattle.index.specs.Index.{rowsIn}
-use Rattle.kit.specs.Kit.{threadsOf, queuesOf, receiverOf}
-use Rattle.kit.specs.Laws.{rows-are, at-there, at-beyond, queue-row}
+use Rattle.chosen.specs.Chosen.{threadsOf, queuesOf}
+use Rattle.kit.specs.Kit.{receiverOf}
+use Rattle.chosen.specs.Laws.{rows-are, at-there, at-beyond, queue-row}
 use Rattle.kit.proofs.receiver_at.Statement.{statement}
 use Rattle.kit.proofs.receiver_at.Tie as tie
 

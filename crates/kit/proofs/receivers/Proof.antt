@@ -2,7 +2,8 @@
 use Rattle.common.specs.Words.{needs, _-_, _≤_, _≡_, length, take}
 use Rattle.common.specs.Table.{table, table-none, table-more, table-all}
 use Rattle.index.specs.Index.{rowsIn}
-use Rattle.kit.specs.Kit.{queuesOf, receiverOf, atOr}
+use Rattle.chosen.specs.Chosen.{queuesOf, atOr}
+use Rattle.kit.specs.Kit.{receiverOf}
 use Rattle.kit.proofs.receivers.Statement.{statement}
 use Rattle.kit.proofs.receivers.Tie as tie
 

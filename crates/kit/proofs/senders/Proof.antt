@@ -2,7 +2,8 @@
 use Rattle.common.specs.Words.{needs, _-_, _≤_, _≡_, length, take}
 use Rattle.common.specs.Table.{table, table-none, table-more, table-all}
 use Rattle.index.specs.Index.{rowsIn}
-use Rattle.kit.specs.Kit.{threadsOf, queuesOf, sendsAt}
+use Rattle.chosen.specs.Chosen.{threadsOf, queuesOf}
+use Rattle.kit.specs.Kit.{sendsAt}
 use Rattle.kit.proofs.senders.Statement.{statement}
 use Rattle.kit.proofs.senders.Tie as tie
 

@@ -2,8 +2,9 @@
 use Rattle.common.specs.Words.{needs, ℕ, Bool, false, List, _∙_, _/_, _%_, arith, getD}
 use Rattle.rows.specs.Rows.{Row}
 use Rattle.index.specs.Index.{rowsIn}
-use Rattle.kit.specs.Kit.{threadsOf, queuesOf, joins, atOr}
-use Rattle.kit.specs.Laws.{at-there, at-beyond, thread-row, queue-row}
+use Rattle.chosen.specs.Chosen.{threadsOf, queuesOf, atOr}
+use Rattle.kit.specs.Kit.{joins}
+use Rattle.chosen.specs.Laws.{at-there, at-beyond, thread-row, queue-row}
 use Rattle.kit.proofs.sends_at.Statement.{statement}
 use Rattle.kit.proofs.sends_at.Tie as tie
 

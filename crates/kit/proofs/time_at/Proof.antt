@@ -1,8 +1,9 @@
 -- `kit::time_at`: where there are so many, its time.
 use Rattle.common.specs.Words.{needs, _∙_}
 use Rattle.index.specs.Index.{rowsIn}
-use Rattle.kit.specs.Kit.{threadsOf, timeOf}
-use Rattle.kit.specs.Laws.{at-there, at-beyond, thread-row}
+use Rattle.chosen.specs.Chosen.{threadsOf}
+use Rattle.kit.specs.Kit.{timeOf}
+use Rattle.chosen.specs.Laws.{at-there, at-beyond, thread-row}
 use Rattle.kit.proofs.time_at.Statement.{statement}
 use Rattle.kit.proofs.time_at.Tie as tie
 

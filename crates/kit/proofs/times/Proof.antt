@@ -2,7 +2,8 @@
 use Rattle.common.specs.Words.{needs, _-_, _≤_, _≡_, length, take}
 use Rattle.common.specs.Table.{table, table-none, table-more, table-all}
 use Rattle.index.specs.Index.{rowsIn}
-use Rattle.kit.specs.Kit.{threadsOf, timeOf, atOr}
+use Rattle.chosen.specs.Chosen.{threadsOf, atOr}
+use Rattle.kit.specs.Kit.{timeOf}
 use Rattle.kit.proofs.times.Statement.{statement}
 use Rattle.kit.proofs.times.Tie as tie
 

@@ -1,8 +1,8 @@
 -- `planning::judged_table`: the first queue that breaks rule 4 or 5 breaks 4, or 5; where there is none the total decides.
 use Rattle.common.specs.Words.{arith, needs, lt-ltb, le-ltb, not-true, not-false}
 use Rattle.plan.specs.Sound.{checked-usable}
+use Rattle.places.specs.Laws.{long-within}
 use Rattle.planning.specs.Planning.{slotsJudged, tableJudged}
-use Rattle.planning.specs.TableLaws.{long-within}
 use Rattle.planning.proofs.judged_table.Statement.{statement}
 use Rattle.planning.proofs.judged_table.Tie as tie
 

@@ -1,11 +1,11 @@
--- `planning::places::first_long`: no queue below the loop's counter is bad.
+-- `places::first_long`: no queue below the loop's counter is bad.
 use Rattle.common.specs.Words.{_-_, _≤_, _&&_, _≡_, sym, needs, not-true, not-false}
 use Rattle.common.specs.Rows.{firstBad, firstBad-none, firstBad-more, firstBad-found}
 use Rattle.plan.specs.Sound.{checked-usable}
 use Rattle.sizing.specs.Cycle.{cycleShort, messagesFew}
-use Rattle.planning.specs.Planning.{longQueue}
-use Rattle.planning.proofs.places.first_long.Statement.{statement}
-use Rattle.planning.proofs.places.first_long.Tie as tie
+use Rattle.places.specs.Places.{longQueue}
+use Rattle.places.proofs.first_long.Statement.{statement}
+use Rattle.places.proofs.first_long.Tie as tie
 
 abbrev Inv-loop : tie.InvT-loop
 Inv-loop table q₀ q-end q = (q ≤ table .queues) × (firstBad (λ q. cycleShort table q && messagesFew table q) q ≡ q)

@@ -1,9 +1,9 @@
--- `kit::is_queue`: a connection whose number is that of the first with its key.
+-- `chosen::is_queue`: a connection whose number is that of the first with its key.
 use Rattle.common.specs.Words.{needs, add-one}
 use Rattle.common.specs.Tests.{tests}
 use Rattle.index.specs.Laws.{row-in}
-use Rattle.kit.proofs.is_queue.Statement.{statement}
-use Rattle.kit.proofs.is_queue.Tie as tie
+use Rattle.chosen.proofs.is_queue.Statement.{statement}
+use Rattle.chosen.proofs.is_queue.Tie as tie
 
 returns : tie.Need-returns
 returns c = rw (← c .before .cell .ensures) (search tests)

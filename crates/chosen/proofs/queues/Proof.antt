@@ -1,14 +1,14 @@
--- `kit::queues`: the rows so far that are first connections to a queue were chosen.
+-- `chosen::queues`: the rows so far that are first connections to a queue were chosen.
 use Rattle.common.specs.Words.{needs, ℕ, Bool, List, _-_, _≤_, _≡_, sym, _∙_, inl, inr, _&&_, eqb}
 use Rattle.rows.specs.Rows.{aLink}
 use Rattle.index.specs.Index.{rowsIn}
 use Rattle.index.specs.Laws.{rows-length}
 use Rattle.ways.specs.Ways.{cell}
 use Rattle.verdict.specs.Verdict.{isFirst}
-use Rattle.kit.specs.Kit.{chosenBelow, queuesOf, chosen}
-use Rattle.kit.specs.Laws.{none-chosen, choose-this, choose-not, chosen-count}
-use Rattle.kit.proofs.queues.Statement.{statement}
-use Rattle.kit.proofs.queues.Tie as tie
+use Rattle.chosen.specs.Chosen.{chosenBelow, queuesOf, chosen}
+use Rattle.chosen.specs.Laws.{none-chosen, choose-this, choose-not, chosen-count}
+use Rattle.chosen.proofs.queues.Statement.{statement}
+use Rattle.chosen.proofs.queues.Tie as tie
 
 -- whether row k is chosen
 abbrev so : List ℕ → List ℕ → ℕ → ℕ → Bool

@@ -1,10 +1,10 @@
--- `planning::places::places_of` fills its array from the front, with the sum of the sizes passed.
+-- `places::places_of` fills its array from the front, with the sum of the sizes passed.
 use Rattle.common.specs.Words.{ℕ, _*_, _-_, _≤_, arith, _≡_, needs, ltb, length, take, getD}
 use Rattle.common.specs.Totals.{only, sum, sum-none, sum-next}
 use Rattle.common.specs.Table.{table, table-none, table-more, table-all}
 use Rattle.sizing.specs.Bounds.{largestSize}
-use Rattle.planning.proofs.places.places_of.Statement.{statement}
-use Rattle.planning.proofs.places.places_of.Tie as tie
+use Rattle.places.proofs.places_of.Statement.{statement}
+use Rattle.places.proofs.places_of.Tie as tie
 
 abbrev Inv-loop : tie.InvT-loop
 Inv-loop queues sizes out₀ sum₀ q₀ out sum q =

@@ -1,16 +1,12 @@
-// The sizes and places of all queues of a table that has passed rules 1 to 3.
-use crate::Answer;
-use crate::Planned;
-use crate::refused;
+// The sizes and places of all queues of a table that has passed rules 1 to 3: one queue after another, over what `sizing` reckons of each.
 use calendar::Multiple;
 use plan::Plan;
-use plan::refusal::Rule;
 ghost use Rattle.common.specs.Words.{_≡_, ℕ, _<_, _≤_, ltb, getD};
 ghost use Rattle.common.specs.Totals.{only, sum};
 ghost use Rattle.plan.specs.Limits.{queueLimit};
 ghost use Rattle.plan.specs.Sound.{Checked};
 ghost use Rattle.sizing.specs.Bounds.{largestSize};
-ghost use Rattle.planning.specs.Planning.{longQueue, leastSize, leastSizes, runningPlaces, slotsJudged};
+ghost use Rattle.places.specs.Places.{longQueue, leastSize, leastSizes, runningPlaces};
 
 // Rules 4 and 5: the first queue that breaks one of them, and the count where none does.
 pub fn first_long(table: Plan) -> usize
@@ -40,7 +36,7 @@ fn size_of(table: Plan, queue: usize) -> u64
     sizing::sizes::slots_over(table, queue, ticks)
 }
 
-fn sizes_of(table: Plan) -> [usize; Plan::QUEUES]
+pub fn sizes_of(table: Plan) -> [usize; Plan::QUEUES]
     requires { ⌜ Checked table × (longQueue table ≡ table .queues) ⌝ }
     ensures { λ r. ⌜ r ≡ leastSizes table ⌝ }
 {
@@ -52,7 +48,7 @@ fn sizes_of(table: Plan) -> [usize; Plan::QUEUES]
 }
 
 // The place of each queue: the sizes before it summed up.
-fn places_of(queues: usize, sizes: [usize; Plan::QUEUES]) -> [usize; Plan::QUEUES]
+pub fn places_of(queues: usize, sizes: [usize; Plan::QUEUES]) -> [usize; Plan::QUEUES]
     requires { ⌜ ((q : ℕ) → q < queueLimit → getD sizes q 0 ≤ largestSize) ⌝ }
     ensures { λ r. ⌜ r ≡ runningPlaces queues sizes ⌝ }
 {
@@ -66,7 +62,7 @@ fn places_of(queues: usize, sizes: [usize; Plan::QUEUES]) -> [usize; Plan::QUEUE
 }
 
 // The slots of all queues together.
-fn total_of(queues: usize, sizes: [usize; Plan::QUEUES]) -> usize
+pub fn total_of(queues: usize, sizes: [usize; Plan::QUEUES]) -> usize
     requires { ⌜ (queues ≤ queueLimit) × ((q : ℕ) → q < queueLimit → getD sizes q 0 ≤ largestSize) ⌝ }
     ensures { λ r. ⌜ r ≡ sum (λ q. getD sizes q 0) queues ⌝ }
 {
@@ -75,23 +71,4 @@ fn total_of(queues: usize, sizes: [usize; Plan::QUEUES]) -> usize
         sum += sizes[q];
     }
     sum
-}
-
-// Rule 6, and the plan with its sizes and places.
-pub fn sized(table: Plan) -> Planned
-    requires { ⌜ Checked table × (longQueue table ≡ table .queues) ⌝ }
-    ensures { λ r. ⌜ r ≡ slotsJudged table ⌝ }
-{
-    let sizes = sizes_of(table);
-    if Plan::MOST_SLOTS < total_of(table.queues, sizes) {
-        return refused(Rule::TooManySlots, 0);
-    }
-    let places = places_of(table.queues, sizes);
-    let mut plan = table;
-    plan.size = sizes;
-    plan.place = places;
-    Planned {
-        answer: Answer::Accepted,
-        plan,
-    }
 }

@@ -1,10 +1,10 @@
--- `planning::places::sizes_of` fills its array from the front.
+-- `places::sizes_of` fills its array from the front.
 use Rattle.common.specs.Words.{_-_, _≤_, _≡_, needs, ltb, length, take}
 use Rattle.common.specs.Totals.{only}
 use Rattle.common.specs.Table.{table, table-none, table-more, table-all}
-use Rattle.planning.specs.Planning.{leastSize}
-use Rattle.planning.proofs.places.sizes_of.Statement.{statement}
-use Rattle.planning.proofs.places.sizes_of.Tie as tie
+use Rattle.places.specs.Places.{leastSize}
+use Rattle.places.proofs.sizes_of.Statement.{statement}
+use Rattle.places.proofs.sizes_of.Tie as tie
 
 abbrev Inv-loop : tie.InvT-loop
 Inv-loop table out₀ q₀ out q =

@@ -1,9 +1,9 @@
--- `planning::places::total_of`: the loop keeps the sum of the sizes passed.
+-- `places::total_of`: the loop keeps the sum of the sizes passed.
 use Rattle.common.specs.Words.{ℕ, _*_, _-_, _≤_, arith, _≡_, needs, getD}
 use Rattle.common.specs.Totals.{sum, sum-none, sum-next}
 use Rattle.sizing.specs.Bounds.{largestSize}
-use Rattle.planning.proofs.places.total_of.Statement.{statement}
-use Rattle.planning.proofs.places.total_of.Tie as tie
+use Rattle.places.proofs.total_of.Statement.{statement}
+use Rattle.places.proofs.total_of.Tie as tie
 
 abbrev Inv-loop : tie.InvT-loop
 Inv-loop queues sizes sum₀ q₀ sum q =

@@ -1,13 +1,13 @@
--- `kit::threads`: the rows so far that are threads were chosen.
+-- `chosen::threads`: the rows so far that are threads were chosen.
 use Rattle.common.specs.Words.{needs, ℕ, Bool, List, _-_, _≤_, _≡_, sym, _∙_, inl, inr, eqb, eq-eqb, ne-eqb}
 use Rattle.rows.specs.Rows.{aThread}
 use Rattle.index.specs.Index.{rowsIn}
 use Rattle.index.specs.Laws.{rows-length}
 use Rattle.ways.specs.Ways.{cell}
-use Rattle.kit.specs.Kit.{chosenBelow, threadsOf, chosen}
-use Rattle.kit.specs.Laws.{none-chosen, choose-this, choose-not, chosen-count}
-use Rattle.kit.proofs.threads.Statement.{statement}
-use Rattle.kit.proofs.threads.Tie as tie
+use Rattle.chosen.specs.Chosen.{chosenBelow, threadsOf, chosen}
+use Rattle.chosen.specs.Laws.{none-chosen, choose-this, choose-not, chosen-count}
+use Rattle.chosen.proofs.threads.Statement.{statement}
+use Rattle.chosen.proofs.threads.Tie as tie
 
 -- whether row k is chosen
 abbrev so : List ℕ → ℕ → ℕ → Bool

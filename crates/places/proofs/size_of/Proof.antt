@@ -1,4 +1,4 @@
--- `planning::places::size_of`: no counted queue's hyperperiod is over the limit, so its least size is the greatest need over it.
+-- `places::size_of`: no counted queue's hyperperiod is over the limit, so its least size is the greatest need over it.
 use Rattle.common.specs.Words.{ℕ, _<_, _≤_, arith, _&&_, _≡_, sym, _∙_, needs, leb-true, lt-ltb}
 use Rattle.common.specs.Tests.{tests, and-left}
 use Rattle.common.specs.Rows.{firstBad-is}
@@ -9,9 +9,9 @@ use Rattle.plan.specs.Plan.{queueAt}
 use Rattle.plan.specs.Sound.{checked-usable}
 use Rattle.plan.specs.declared.Plan.{Plan}
 use Rattle.sizing.specs.Cycle.{cycleShort, messagesFew}
-use Rattle.planning.specs.Planning.{longQueue}
-use Rattle.planning.proofs.places.size_of.Statement.{statement}
-use Rattle.planning.proofs.places.size_of.Tie as tie
+use Rattle.places.specs.Places.{longQueue}
+use Rattle.places.proofs.size_of.Statement.{statement}
+use Rattle.places.proofs.size_of.Tie as tie
 
 short : (t : Plan) (q : ℕ) → longQueue t ≡ t .queues → q < t .queues → hyperperiod (queueAt t q) ≤ longestHyperperiod
 unfolding longQueue

@@ -1,11 +1,12 @@
--- `planning::places::sized`: the sizes are the least ones, and their total decides rule 6.
+-- `planning::sized`: the sizes are the least ones, and their total decides rule 6.
 use Rattle.common.specs.Words.{_<_, _≤_, needs, lt-ltb, le-ltb}
 use Rattle.common.specs.Totals.{sum}
 use Rattle.plan.specs.Limits.{mostSlots}
-use Rattle.planning.specs.Planning.{leastSize, sized, slotsJudged}
-use Rattle.planning.specs.TableLaws.{sizes-small, total-is}
-use Rattle.planning.proofs.places.sized.Statement.{statement}
-use Rattle.planning.proofs.places.sized.Tie as tie
+use Rattle.places.specs.Places.{leastSize}
+use Rattle.places.specs.Laws.{sizes-small, total-is}
+use Rattle.planning.specs.Planning.{sized, slotsJudged}
+use Rattle.planning.proofs.sized.Statement.{statement}
+use Rattle.planning.proofs.sized.Tie as tie
 
 total-requires : tie.Need-total-of-requires
 total-requires c κs =

@@ -1,8 +1,8 @@
--- `kit::more`: where there is room and where there is none.
+-- `chosen::more`: where there is room and where there is none.
 use Rattle.common.specs.Words.{needs, ⊎-elim}
-use Rattle.kit.specs.Laws.{more-held, more-full}
-use Rattle.kit.proofs.more.Statement.{statement}
-use Rattle.kit.proofs.more.Tie as tie
+use Rattle.chosen.specs.Laws.{more-held, more-full}
+use Rattle.chosen.proofs.more.Statement.{statement}
+use Rattle.chosen.proofs.more.Tie as tie
 
 returns : tie.Need-returns
 returns c ks e =

@@ -1,0 +1,3 @@
+-- The pages of this crate's definitions and laws.
+pub mod Chosen
+pub mod Laws

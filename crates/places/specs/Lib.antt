@@ -1,0 +1,3 @@
+-- The pages of this crate's definitions and laws.
+pub mod Places
+pub mod Laws
