@@ -1,5 +1,5 @@
 -- The calls of feed on a block, one after another, come to what Block.antt says. Leans on feed's fold over a block.
-use Rattle.common.specs.Words.{ℕ, _+_, _≤_, List, _++_, _≡_, refl, sym, length, take, drop}
+use Rattle.common.specs.Words.{ℕ, _+_, _<_, _≤_, arith, List, [], _∷_, _++_, _≡_, refl, sym, length, take, drop}
 use Rattle.common.specs.Words.{length-take-le, take-append-add}
 use lib.ListN.{take-append-drop}
 use Rattle.feed.specs.Answers.{Console, consoleOf, consoleAfter, answersTo}
@@ -7,8 +7,10 @@ use Rattle.feed.specs.Feed.{Feeding}
 use Rattle.feed.specs.Outcome.{fedFrom, Outcome}
 use Rattle.feed.specs.Session.{answered-append, feed-answered}
 use Rattle.feed.specs.declared.Fed.{Fed}
-use Rattle.lines.specs.Lines.{fed}
-use Rattle.mulchpenny.specs.Block.{Comes}
+use Rattle.lines.specs.Lines.{lineFeed, fed}
+use Rattle.lines.specs.Whole.{end-fed}
+use Rattle.mulchpenny.specs.Block.{Comes, BlockGives, LastGives}
+use Rattle.mulchpenny.specs.declared.Turn.{Turn}
 
 pub comes-none : (w : Console) (c piece : List ℕ) → Comes w c (take 0 piece) w c
 unfolding consoleAfter fed
@@ -32,3 +34,10 @@ comes-on {w} {c} v held u piece at out i a f =
     (record { console = a .console; answers = refl; carry = a .carried }) (feed-answered v (take u held) (drop at piece) (length out)) in
     let e = take-on piece at (g .taken) i in
     rw (f .carry-is, f .memory-is, f .result) (record { console = rw e at (b .console); carried = rw e at (b .carry) })
+
+-- the end of a line as a block is all used, so it is one line more
+pub last-block : {w : Console} {c : List ℕ} {t : Turn} {m h : List ℕ} → 0 < length c → BlockGives w c (lineFeed ∷ []) t m h →
+    LastGives w c t m h
+last-block {w} {c} {t} l b =
+    let n : t .next ≡ 1 = omega (arith, b .inside, b .moves (omega arith)) in
+    record { console = rw (n, end-fed c l) at (b .comes .console); nothing-left = rw (n, end-fed c l) at (b .comes .carried) }

@@ -9,7 +9,7 @@ ghost use Rattle.desk.specs.Desk.{SoundDesk};
 ghost use Rattle.feed.specs.Feed.{enough};
 ghost use Rattle.feed.specs.Answers.{consoleOf};
 ghost use Rattle.lines.specs.Lines.{carryLimit};
-ghost use Rattle.mulchpenny.specs.Block.{BlockGives};
+ghost use Rattle.mulchpenny.specs.Block.{BlockGives, LastGives};
 
 const MEMORY: usize = Plan::MOST_SLOTS * Plan::SLOT_BYTES;
 
@@ -72,12 +72,20 @@ fn answer_last(
     used: usize,
     out: &mut [u8],
     stream: Stream,
-)
+) -> Turn
     requires { ⌜ (used ≤ carryLimit) × (carryLimit ≤ length (now held)) × (enough ≤ length (now out)) × SoundDesk desk ⌝ }
+    ensures { λ r. ⌜ LastGives (consoleOf desk (now (memory .entry))) (take used (now (held .entry))) r
+        (now (memory .exit)) (now (held .exit)) ⌝ }
 {
-    if 0 < used {
-        answer_block(desk, memory, held, used, b"\n", out, stream);
+    if used == 0 {
+        return Turn {
+            desk,
+            used,
+            next: 0,
+            stream,
+        };
     }
+    answer_block(desk, memory, held, used, b"\n", out, stream)
 }
 
 // Answers the whole input, block by block, until the stream is closed.

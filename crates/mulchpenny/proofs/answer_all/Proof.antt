@@ -17,11 +17,29 @@ abbrev μ-loop : tie.MeasureT-loop
 loop-holds : tie.Need-loop-holds Inv-loop μ-loop
 loop-holds c = (omega arith, refl, refl, refl, refl, rw (c .before .new .ensures) sound-new)
 
--- no byte came
+-- ## No byte came
+
+module _ (c : tie.After-slice-known8 Inv-loop μ-loop) where
+  abbrev none : tie.Then2 Inv-loop μ-loop
+  none = c .before .before .before .before .before .before .before .before .before .before
+
+  abbrev begun : tie.At-loop Inv-loop μ-loop
+  begun = none .before .before .before .before .before .before .before .before
+
+same-length : tie.Need-same-length Inv-loop μ-loop
+same-length c = let i = begun c .loop .inv in let m = c .before .before .before .before .before .memory .given in search needs
+
+same-length-2 : tie.Need-same-length-2 Inv-loop μ-loop
+same-length-2 c = let i = begun c .loop .inv in let m = c .before .before .before .held .given in search needs
+
+same-length-3 : tie.Need-same-length-3 Inv-loop μ-loop
+same-length-3 c = let i = begun c .loop .inv in let m = none c .before .before .before .piece .given in search needs
+
+same-length-4 : tie.Need-same-length-4 Inv-loop μ-loop
+same-length-4 c = let i = begun c .loop .inv in let m = c .before .out .given in search needs
+
 returns : tie.Need-returns Inv-loop μ-loop
-returns c =
-    let t = c .before .before .before .before .before .before .before .before .before .before in
-    t .before .before .before .before .read-block .ensures .ended (t .if2 .taken)
+returns c = none c .before .before .before .before .read-block .ensures .ended (none c .if2 .taken)
 
 slice-aggregate-answer-block : tie.Need-slice-aggregate-answer-block Inv-loop μ-loop
 slice-aggregate-answer-block c = simp length-take (omega arith)
@@ -68,10 +86,10 @@ answer-all-spec =
     (λ c κs. search needs)
     (λ c κs. search needs)
     (λ c κs. search needs)
-    (λ c. search needs)
-    (λ c. search needs)
-    (λ c. search needs)
-    (λ c. search needs)
+    same-length
+    same-length-2
+    same-length-3
+    same-length-4
     returns
     (λ c. search needs)
     slice-aggregate-answer-block

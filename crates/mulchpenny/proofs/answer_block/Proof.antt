@@ -65,6 +65,7 @@ returns c =
         inside = omega (arith, o .0 .next-fits);
         comes = comes (fed w);
         whole = λ e. absurd (true≢false (sym (rw (c .before .goes-on .ensures, e) at (c .if1 .taken))));
+        moves = λ e. omega (arith, moves (fed w));
       },
       (o .0 .used-fits, o .1, w .write-answers .ensures .same-left ∙ turn (fed w) .before .loop .inv .6),
     )
@@ -91,8 +92,15 @@ loop-again c =
 -- the block is used up
 returns-2 : tie.Need-returns-2 Inv-loop μ-loop
 returns-2 c =
-    let i = c .before .loop .inv in
-    (record { inside = i .1; comes = i .7; whole = λ e. omega (arith, i .1, c .loop-test .left) }, (i .0, i .5, i .6))
+    let i = c .before .loop .inv in (
+      record {
+        inside = i .1;
+        comes = i .7;
+        whole = λ e. omega (arith, i .1, c .loop-test .left);
+        moves = λ e. omega (arith, e, c .loop-test .left);
+      },
+      (i .0, i .5, i .6),
+    )
 
 pub answer-block-spec : {M : Type 1} → statement M
 answer-block-spec =
