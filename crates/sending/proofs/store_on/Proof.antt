@@ -41,7 +41,8 @@ module _ (before unsent : ℕ) (p : Plan) (m : List ℕ) (q i t : ℕ) (payload 
 abbrev planOf : tie.Start → Plan
 planOf k =
     let a = k .args in
-    lentPlan (a .sends .now) (a .period .now) (a .deadline .now) (a .receiver .now) (a .size .now) (a .place .now) (a .tasks) (a .queues)
+    lentPlan (a .sends .now) (a .period .now) (a .deadline .now) (a .priority .now) (a .receiver .now)
+    (a .size .now) (a .place .now) (a .tasks) (a .queues)
 
 -- what is known once the verdict is clear
 module _ (t : tie.After-enum-told) where
