@@ -13,7 +13,11 @@ ghost use Rattle.counting.specs.Columns.{orderedAt, Lent, numberDue};
 fn precedes(own: u8, other: u8, task: usize, row: usize) -> bool
     ensures { λ r. ⌜ ((q : Queue) → q .priority task ≡ own → q .priority row ≡ other → r ≡ precedes q task row) ⌝ }
 {
-    if own == other { task < row } else { other < own }
+    if own == other {
+        task < row
+    } else {
+        other < own
+    }
 }
 
 // One tick earlier; tick 0 stays, where no message is due.

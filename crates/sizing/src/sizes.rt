@@ -96,7 +96,16 @@ fn need_of<'a>(
         return 0;
     }
     let due = calendar::deadline_of(period[task], deadline[task], job);
-    let number = counting::number::number_due(sends, period, deadline, priority, tasks, queue, due, task);
+    let number = counting::number::number_due(
+        sends,
+        period,
+        deadline,
+        priority,
+        tasks,
+        queue,
+        due,
+        task,
+    );
     number.0 - outdated
 }
 
