@@ -56,6 +56,7 @@ pub record SameTable (a b : Desk) : Type 0 where
   pub queues : a .queues ≡ b .queues
   pub period : a .period ≡ b .period
   pub deadline : a .deadline ≡ b .deadline
+  pub priority : a .priority ≡ b .priority
   pub receiver : a .receiver ≡ b .receiver
   pub senders : a .senders ≡ b .senders
 
