@@ -12,8 +12,8 @@ use Rattle.model.specs.WayBack.{dueAt-job}
 use Rattle.model.specs.Permuted.{Permuted, deadline-permuted, due-permuted, upTo-permuted, slots-permuted}
 
 -- "Of two messages of a queue with equal deadlines, the higher priority has the lower number; of equal priorities, the lower row."
-pub ahead-lower : (q : Queue) → Valid q → (i k j l : ℕ) → Sender q i → Sender q j → deadlineOf q i k ≡ deadlineOf q j l → Ahead q i j →
-    number q i k < number q j l
+pub ahead-lower : (q : Queue) → Valid q → (i k j l : ℕ) → Sender q i → Sender q j →
+    deadlineOf q i k ≡ deadlineOf q j l → Ahead q i j → number q i k < number q j l
 ahead-lower q v i k j l si sj e a = number-less q v i k j l si sj (inr (e, prec-iff q i j .1 a))
 
 -- Where two queues count alike and the messages that are due with a message go before and after it alike, it has the same number in both.
