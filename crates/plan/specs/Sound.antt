@@ -103,24 +103,6 @@ checked-of p square a c t u =
       every-firstBad (queueGoodAt p) (p .queues) .1 (sym (badQueue-same p square a) ∙ u),
     ))
 
--- "7 asks nothing of priorities" (request b): with others in their place a plan is as sound as it was
-abbrev pub withPriority : Plan → List ℕ → Plan
-withPriority p priority = record {
-  tasks = p .tasks;
-  queues = p .queues;
-  period = p .period;
-  deadline = p .deadline;
-  priority = priority;
-  receiver = p .receiver;
-  sends = p .sends;
-  size = p .size;
-  place = p .place;
-}
-
-pub sound-any-priority : (p : Plan) (priority : List ℕ) → soundPlan (withPriority p priority) ≡ soundPlan p
-unfolding soundPlan checkedPlan placesGood
-sound-any-priority p priority = refl
-
 -- "the plan of all zeros, which every call answers with 7"
 pub zeros-unsound : soundPlan zeros ≡ false
 unfolding soundPlan checkedPlan countsGood oneTo

@@ -2,20 +2,12 @@
 -- order of the rows; and where the messages have the same numbers, the queue has the same slots. Priorities are not asked for here.
 use Rattle.common.specs.Words.{ℕ, _+_, _-_, _*_, _<_, _≤_, arith, _↔_, _≡_, refl, sym, ap, subst, _∙_}
 use Rattle.common.specs.Totals.{sum, sum-ext}
-use Rattle.common.specs.Permutation.{Permutation, sum-permuted}
 use Rattle.model.specs.Model.{Queue, Valid, Sender, receiverPeriod, receiverDeadline, releaseOf, deadlineOf, rowUpTo, upTo, dueAt}
 use Rattle.model.specs.Model.{number, first, last, wantedFor, slots}
 use Rattle.model.specs.Source.{Fit, outdatedAt}
 use Rattle.model.specs.Slots.{slots-fit, slots-least}
-
--- p is q with row i at row s i; r leads back
-pub record Permuted (q p : Queue) (s r : ℕ → ℕ) : Type 0 where
-  pub rows : p .rows ≡ q .rows
-  pub order : Permutation (q .rows) s r
-  pub period : (i : ℕ) → i < q .rows → p .period (s i) ≡ q .period i
-  pub deadline : (i : ℕ) → i < q .rows → p .deadline (s i) ≡ q .deadline i
-  pub sends : (i : ℕ) → i < q .rows → p .sends (s i) ≡ q .sends i
-  pub receiver : p .receiver ≡ s (q .receiver)
+use Rattle.priorities.specs.Priorities.{Permuted}
+use Rattle.priorities.specs.Sums.{sum-permuted}
 
 module _ {q p : Queue} {s r : ℕ → ℕ} (m : Permuted q p s r) where
   pub permuted-sender : (i : ℕ) → Sender q i → Sender p (s i)
