@@ -68,6 +68,7 @@ fn send_line<'a>(
     sends: &'a [bool; Plan::CELLS],
     period: &'a [u64; Plan::TASKS],
     deadline: &'a [u64; Plan::TASKS],
+    priority: &'a [u8; Plan::TASKS],
     receiver: &'a [usize; Plan::QUEUES],
     size: &'a [usize; Plan::QUEUES],
     place: &'a [usize; Plan::QUEUES],
@@ -83,11 +84,12 @@ fn send_line<'a>(
     out: &mut [u8],
     remembered: Remembered,
 ) -> Called
-    requires { ⌜ (sound ≡ soundPlan (lentPlan (now sends) (now period) (now deadline) (now receiver) (now size) (now place) tasks queues))
+    requires { ⌜ (sound ≡ soundPlan (lentPlan (now sends) (now period) (now deadline) (now priority) (now receiver)
+        (now size) (now place) tasks queues))
         × (longestAnswer ≤ length (now out)) ⌝ }
     ensures { λ r. ⌜ ((reading : List ℕ) → Leaves (sendCall
-        (lentPlan (now (sends .entry)) (now (period .entry)) (now (deadline .entry)) (now (receiver .entry))
-        (now (size .entry)) (now (place .entry)) tasks queues)
+        (lentPlan (now (sends .entry)) (now (period .entry)) (now (deadline .entry)) (now (priority .entry))
+        (now (receiver .entry)) (now (size .entry)) (now (place .entry)) tasks queues)
         (stateOf before (now (sent .entry)) reading) (now (memory .entry)) queue task at (now (payload .entry)))
         (now (out .entry)) (r .tick) (r .written) (now (sent .exit)) reading (now (memory .exit)) (now (out .exit)))
         × (r .remembered ≡ remembered) ⌝ }
@@ -97,6 +99,7 @@ fn send_line<'a>(
         sends,
         period,
         deadline,
+        priority,
         receiver,
         size,
         place,
@@ -125,6 +128,7 @@ fn receive_line<'a>(
     sends: &'a [bool; Plan::CELLS],
     period: &'a [u64; Plan::TASKS],
     deadline: &'a [u64; Plan::TASKS],
+    priority: &'a [u8; Plan::TASKS],
     receiver: &'a [usize; Plan::QUEUES],
     size: &'a [usize; Plan::QUEUES],
     place: &'a [usize; Plan::QUEUES],
@@ -138,22 +142,25 @@ fn receive_line<'a>(
     out: &mut [u8],
     remembered: Remembered,
 ) -> Called
-    requires { ⌜ (sound ≡ soundPlan (lentPlan (now sends) (now period) (now deadline) (now receiver) (now size) (now place) tasks queues))
+    requires { ⌜ (sound ≡ soundPlan (lentPlan (now sends) (now period) (now deadline) (now priority) (now receiver)
+        (now size) (now place) tasks queues))
         × (longestAnswer ≤ length (now out))
-        × Remembers (lentPlan (now sends) (now period) (now deadline) (now receiver) (now size) (now place) tasks queues) remembered ⌝ }
+        × Remembers (lentPlan (now sends) (now period) (now deadline) (now priority) (now receiver)
+        (now size) (now place) tasks queues) remembered ⌝ }
     ensures { λ r. ⌜ ((sent : List ℕ) → Leaves (receiveCall
-        (lentPlan (now (sends .entry)) (now (period .entry)) (now (deadline .entry)) (now (receiver .entry))
-        (now (size .entry)) (now (place .entry)) tasks queues)
+        (lentPlan (now (sends .entry)) (now (period .entry)) (now (deadline .entry)) (now (priority .entry))
+        (now (receiver .entry)) (now (size .entry)) (now (place .entry)) tasks queues)
         (stateOf before sent (now (reading .entry))) (now (memory .entry)) queue at)
         (now (out .entry)) (r .tick) (r .written) sent (now (reading .exit)) (now (memory .entry)) (now (out .exit)))
-        × Remembers (lentPlan (now (sends .entry)) (now (period .entry)) (now (deadline .entry)) (now (receiver .entry))
-        (now (size .entry)) (now (place .entry)) tasks queues) (r .remembered) ⌝ }
+        × Remembers (lentPlan (now (sends .entry)) (now (period .entry)) (now (deadline .entry)) (now (priority .entry))
+        (now (receiver .entry)) (now (size .entry)) (now (place .entry)) tasks queues) (r .remembered) ⌝ }
 {
     let done = receiving::receive_on(
         sound,
         sends,
         period,
         deadline,
+        priority,
         receiver,
         size,
         place,
@@ -185,6 +192,7 @@ pub fn call_line<'a>(
     sends: &'a [bool; Plan::CELLS],
     period: &'a [u64; Plan::TASKS],
     deadline: &'a [u64; Plan::TASKS],
+    priority: &'a [u8; Plan::TASKS],
     receiver: &'a [usize; Plan::QUEUES],
     size: &'a [usize; Plan::QUEUES],
     place: &'a [usize; Plan::QUEUES],
@@ -200,16 +208,18 @@ pub fn call_line<'a>(
     remembered: Remembered,
 ) -> Called
     requires { ⌜ (runs ≡ true → sound
-        ≡ soundPlan (lentPlan (now sends) (now period) (now deadline) (now receiver) (now size) (now place) tasks queues))
+        ≡ soundPlan (lentPlan (now sends) (now period) (now deadline) (now priority) (now receiver)
+        (now size) (now place) tasks queues))
         × (longestAnswer ≤ length (now out))
-        × Remembers (lentPlan (now sends) (now period) (now deadline) (now receiver) (now size) (now place) tasks queues) remembered ⌝ }
+        × Remembers (lentPlan (now sends) (now period) (now deadline) (now priority) (now receiver)
+        (now size) (now place) tasks queues) remembered ⌝ }
     ensures { λ r. ⌜ Leaves (lineCall runs
-        (lentPlan (now (sends .entry)) (now (period .entry)) (now (deadline .entry)) (now (receiver .entry))
-        (now (size .entry)) (now (place .entry)) tasks queues)
+        (lentPlan (now (sends .entry)) (now (period .entry)) (now (deadline .entry)) (now (priority .entry))
+        (now (receiver .entry)) (now (size .entry)) (now (place .entry)) tasks queues)
         (stateOf before (now (sent .entry)) (now (reading .entry))) (now (memory .entry)) (now (payload .entry)) frame)
         (now (out .entry)) (r .tick) (r .written) (now (sent .exit)) (now (reading .exit)) (now (memory .exit)) (now (out .exit))
-        × Remembers (lentPlan (now (sends .entry)) (now (period .entry)) (now (deadline .entry)) (now (receiver .entry))
-        (now (size .entry)) (now (place .entry)) tasks queues) (r .remembered) ⌝ }
+        × Remembers (lentPlan (now (sends .entry)) (now (period .entry)) (now (deadline .entry)) (now (priority .entry))
+        (now (receiver .entry)) (now (size .entry)) (now (place .entry)) tasks queues) (r .remembered) ⌝ }
 {
     if !runs {
         return Called {
@@ -224,6 +234,7 @@ pub fn call_line<'a>(
             sends,
             period,
             deadline,
+            priority,
             receiver,
             size,
             place,
@@ -246,6 +257,7 @@ pub fn call_line<'a>(
             sends,
             period,
             deadline,
+            priority,
             receiver,
             size,
             place,

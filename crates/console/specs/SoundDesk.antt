@@ -52,7 +52,7 @@ keeps-plan d p m (Answer.Refused r) h = sound-new
 -- an accepted planning makes a sound plan
 planned-sound : (d : Desk) → planned d .answer ≡ Answer.Accepted → soundPlan (planned d .plan) ≡ true
 unfolding planned
-planned-sound d e = accepted-made (d .tasks) (d .queues) (d .period) (d .deadline) (d .receiver) (squareOf (d .senders)) e .sound
+planned-sound d e = accepted-made (d .tasks) (d .queues) (d .period) (d .deadline) (d .priority) (d .receiver) (squareOf (d .senders)) e .sound
 
 keeps-table : (d : Desk) (m : List ℕ) (f : Frame) → SoundDesk d → Keeps (tableTurn d m f)
 unfolding withTask withQueue goTurn

@@ -60,6 +60,7 @@ fn act(desk: Desk, memory: &mut [u8], frame: Frame, payload: &[u8], out: &mut [u
         &plan.sends,
         &plan.period,
         &plan.deadline,
+        &plan.priority,
         &plan.receiver,
         &plan.size,
         &plan.place,

@@ -3,17 +3,21 @@
 use calendar::Number;
 use calendar::Tick;
 use plan::Plan;
-ghost use Rattle.common.specs.Words.{_≡_, cond, _-_, _≤_};
+ghost use Rattle.common.specs.Words.{_≡_, cond, _-_, _<_, _≤_};
 ghost use Rattle.model.specs.Model.{Queue, precedes};
 ghost use Rattle.calendar.specs.Calendar.{message};
 ghost use Rattle.plan.specs.Limits.{lastTick};
-ghost use Rattle.counting.specs.Columns.{columnsAt, Lent, numberDue};
+ghost use Rattle.counting.specs.Columns.{orderedAt, Lent, numberDue};
 
-// Of two messages with equal deadlines, whether the task's goes before the row's.
-fn precedes(task: usize, row: usize) -> bool
-    ensures { λ r. ⌜ ((q : Queue) → r ≡ precedes q task row) ⌝ }
+// Of two messages with equal deadlines, whether the task's goes before the row's: the higher priority first, and equal ones by row.
+fn precedes(own: u8, other: u8, task: usize, row: usize) -> bool
+    ensures { λ r. ⌜ ((q : Queue) → q .priority task ≡ own → q .priority row ≡ other → r ≡ precedes q task row) ⌝ }
 {
-    task < row
+    if own == other {
+        task < row
+    } else {
+        other < own
+    }
 }
 
 // One tick earlier; tick 0 stays, where no message is due.
@@ -34,21 +38,23 @@ pub fn number_due<'a>(
     sends: &'a [bool; Plan::CELLS],
     period: &'a [u64; Plan::TASKS],
     deadline: &'a [u64; Plan::TASKS],
+    priority: &'a [u8; Plan::TASKS],
     tasks: usize,
     queue: usize,
     due: Tick,
     task: usize,
 ) -> Number
-    requires { ⌜ Lent (now sends) (now period) (now deadline) tasks queue × (due .0 ≤ lastTick) ⌝ }
+    requires { ⌜ Lent (now sends) (now period) (now deadline) tasks queue × (due .0 ≤ lastTick) × (task < tasks) ⌝ }
     ensures { λ r. ⌜ r ≡ message (numberDue
-        (columnsAt (now (sends .entry)) (now (period .entry)) (now (deadline .entry)) tasks queue) (due .0) task) ⌝ }
+        (orderedAt (now (sends .entry)) (now (period .entry)) (now (deadline .entry)) (now (priority .entry)) tasks queue) (due .0) task) ⌝ }
 {
     let base = queue * Plan::TASKS;
     let before = tick_before(due);
+    let own = priority[task];
     let mut sum: u64 = 0;
     for i in 0..tasks {
         if sends[base + i] {
-            let until = last_counted(precedes(task, i), before, due);
+            let until = last_counted(precedes(own, priority[i], task, i), before, due);
             sum += calendar::count(period[i], deadline[i], until);
         }
     }

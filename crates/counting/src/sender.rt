@@ -10,7 +10,7 @@ ghost use Rattle.common.specs.Rows.{firstBad};
 ghost use Rattle.model.specs.Model.{upTo, hasDeadline, tickOf, sentBy};
 ghost use Rattle.calendar.specs.Calendar.{tick};
 ghost use Rattle.plan.specs.Limits.{lastTick};
-ghost use Rattle.counting.specs.Columns.{columnsAt, Lent};
+ghost use Rattle.counting.specs.Columns.{columnsAt, orderedAt, Lent};
 
 // The deadline of message n, which lies after `low` and not after `high`.
 pub fn tick_between<'a>(
@@ -59,6 +59,7 @@ fn sent_by<'a>(
     sends: &'a [bool; Plan::CELLS],
     period: &'a [u64; Plan::TASKS],
     deadline: &'a [u64; Plan::TASKS],
+    priority: &'a [u8; Plan::TASKS],
     tasks: usize,
     queue: usize,
     n: Number,
@@ -66,8 +67,8 @@ fn sent_by<'a>(
     row: usize,
 ) -> bool
     requires { ⌜ Lent (now sends) (now period) (now deadline) tasks queue × (row < tasks) × (at .0 ≤ lastTick) ⌝ }
-    ensures { λ r. ⌜ r ≡ sentBy (columnsAt (now (sends .entry)) (now (period .entry)) (now (deadline .entry)) tasks queue) (at .0)
-        (n .0) row ⌝ }
+    ensures { λ r. ⌜ r ≡ sentBy
+        (orderedAt (now (sends .entry)) (now (period .entry)) (now (deadline .entry)) (now (priority .entry)) tasks queue) (at .0) (n .0) row ⌝ }
 {
     if due(
         sends[queue * Plan::TASKS + row],
@@ -75,7 +76,7 @@ fn sent_by<'a>(
         deadline[row],
         at,
     ) {
-        let number = number_due(sends, period, deadline, tasks, queue, at, row);
+        let number = number_due(sends, period, deadline, priority, tasks, queue, at, row);
         number.0 == n.0
     } else {
         false
@@ -87,17 +88,18 @@ pub fn sender_at<'a>(
     sends: &'a [bool; Plan::CELLS],
     period: &'a [u64; Plan::TASKS],
     deadline: &'a [u64; Plan::TASKS],
+    priority: &'a [u8; Plan::TASKS],
     tasks: usize,
     queue: usize,
     n: Number,
     at: Tick,
 ) -> usize
     requires { ⌜ Lent (now sends) (now period) (now deadline) tasks queue × (at .0 ≤ lastTick) ⌝ }
-    ensures { λ r. ⌜ r ≡ firstBad (λ i. not
-        (sentBy (columnsAt (now (sends .entry)) (now (period .entry)) (now (deadline .entry)) tasks queue) (at .0) (n .0) i)) tasks ⌝ }
+    ensures { λ r. ⌜ r ≡ firstBad (λ i. not (sentBy
+        (orderedAt (now (sends .entry)) (now (period .entry)) (now (deadline .entry)) (now (priority .entry)) tasks queue) (at .0) (n .0) i)) tasks ⌝ }
 {
     for row in 0..tasks {
-        if sent_by(sends, period, deadline, tasks, queue, n, at, row) {
+        if sent_by(sends, period, deadline, priority, tasks, queue, n, at, row) {
             return row;
         }
     }

@@ -97,7 +97,7 @@ abbrev pub squareOf : List ℕ → List (List Bool)
 squareOf masks = table (λ q. rowOf (getD masks q 0)) queueLimit
 
 unfoldable pub planned : Desk → Planned
-planned d = planOf (d .tasks) (d .queues) (d .period) (d .deadline) (d .receiver) (squareOf (d .senders))
+planned d = planOf (d .tasks) (d .queues) (d .period) (d .deadline) (d .priority) (d .receiver) (squareOf (d .senders))
 
 -- "7f, refusal (1), row (1)", and "A refused 03 empties the table"
 abbrev pub refusedGo : List ℕ → Refusal → Turn

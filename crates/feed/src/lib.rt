@@ -115,6 +115,7 @@ pub fn feed(
                 &d.plan.sends,
                 &d.plan.period,
                 &d.plan.deadline,
+                &d.plan.priority,
                 &d.plan.receiver,
                 &d.plan.size,
                 &d.plan.place,

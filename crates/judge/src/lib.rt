@@ -59,6 +59,7 @@ pub fn judge_send<'a>(
     sends: &'a [bool; Plan::CELLS],
     period: &'a [u64; Plan::TASKS],
     deadline: &'a [u64; Plan::TASKS],
+    priority: &'a [u8; Plan::TASKS],
     receiver: &'a [usize; Plan::QUEUES],
     size: &'a [usize; Plan::QUEUES],
     place: &'a [usize; Plan::QUEUES],
@@ -72,10 +73,11 @@ pub fn judge_send<'a>(
     before: Tick,
     sent: &[u64; Plan::CELLS],
 ) -> Verdict
-    requires { ⌜ sound ≡ soundPlan (lentPlan (now sends) (now period) (now deadline) (now receiver) (now size) (now place) tasks queues) ⌝ }
+    requires { ⌜ sound ≡ soundPlan (lentPlan (now sends) (now period) (now deadline) (now priority) (now receiver)
+        (now size) (now place) tasks queues) ⌝ }
     ensures { λ r. ⌜ r ≡ verdict (sendLines (before .0) (unsentAt (now (sent .entry)) queue task)
-        (lentPlan (now (sends .entry)) (now (period .entry)) (now (deadline .entry)) (now (receiver .entry))
-        (now (size .entry)) (now (place .entry)) tasks queues)
+        (lentPlan (now (sends .entry)) (now (period .entry)) (now (deadline .entry)) (now (priority .entry))
+        (now (receiver .entry)) (now (size .entry)) (now (place .entry)) tasks queues)
         (now (memory .entry)) queue task (at .0) (now (payload .entry))) ⌝ }
 {
     if !sound {
@@ -100,6 +102,7 @@ pub fn judge_receive<'a>(
     sends: &'a [bool; Plan::CELLS],
     period: &'a [u64; Plan::TASKS],
     deadline: &'a [u64; Plan::TASKS],
+    priority: &'a [u8; Plan::TASKS],
     receiver: &'a [usize; Plan::QUEUES],
     size: &'a [usize; Plan::QUEUES],
     place: &'a [usize; Plan::QUEUES],
@@ -110,10 +113,11 @@ pub fn judge_receive<'a>(
     at: Tick,
     before: Tick,
 ) -> Verdict
-    requires { ⌜ sound ≡ soundPlan (lentPlan (now sends) (now period) (now deadline) (now receiver) (now size) (now place) tasks queues) ⌝ }
+    requires { ⌜ sound ≡ soundPlan (lentPlan (now sends) (now period) (now deadline) (now priority) (now receiver)
+        (now size) (now place) tasks queues) ⌝ }
     ensures { λ r. ⌜ r ≡ verdict (receiveLines (before .0)
-        (lentPlan (now (sends .entry)) (now (period .entry)) (now (deadline .entry)) (now (receiver .entry))
-        (now (size .entry)) (now (place .entry)) tasks queues)
+        (lentPlan (now (sends .entry)) (now (period .entry)) (now (deadline .entry)) (now (priority .entry))
+        (now (receiver .entry)) (now (size .entry)) (now (place .entry)) tasks queues)
         (now (memory .entry)) queue (at .0)) ⌝ }
 {
     if !sound {

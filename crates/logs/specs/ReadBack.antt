@@ -50,7 +50,7 @@ plan-tells : (d : Desk) (m : List ℕ) (a : Answer) → planned d .answer ≡ a 
 unfolding planned
 plan-tells d m Answer.Accepted e = start-tells d (planned d .plan) m (startAnswer (planned d .plan) m) (start-fits (planned d .plan) m _ refl)
 plan-tells d m (Answer.Refused r) e =
-    refusal-back r (planning-fits (d .tasks) (d .queues) (d .period) (d .deadline) (d .receiver) (squareOf (d .senders)) r e)
+    refusal-back r (planning-fits (d .tasks) (d .queues) (d .period) (d .deadline) (d .priority) (d .receiver) (squareOf (d .senders)) r e)
 
 frame-tells : (d : Desk) (m payload : List ℕ) (f : Frame) → Tells (turnOf d m payload f) (frameTold d m payload f)
 unfolding goTurn frameTold

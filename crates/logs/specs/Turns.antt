@@ -67,7 +67,7 @@ module _ (d : Desk) (m : List ℕ) (e : d .running ≡ false) where
   unfolding planned
   plan-waits Answer.Accepted a =
       start-waits (startAnswer (planned d .plan) m)
-      (accepted-made (d .tasks) (d .queues) (d .period) (d .deadline) (d .receiver) (squareOf (d .senders)) a) refl
+      (accepted-made (d .tasks) (d .queues) (d .period) (d .deadline) (d .priority) (d .receiver) (squareOf (d .senders)) a) refl
   plan-waits (Answer.Refused r) a = waits refl refl tt
 
   pub waiting : (payload : List ℕ) (f : Frame) → Waits d m f (turnOf d m payload f)

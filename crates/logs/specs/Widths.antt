@@ -127,9 +127,9 @@ start-fits p m (Started.Refused r) e = row-small (startLines p m) r refl (start-
 
 -- ## Planning
 
-module _ (tasks queues : ℕ) (period deadline receiver : List ℕ) (square : List (List Bool)) where
+module _ (tasks queues : ℕ) (period deadline priority receiver : List ℕ) (square : List (List Bool)) where
   abbrev T : Plan
-  T = tabled tasks queues period deadline receiver square
+  T = tabled tasks queues period deadline priority receiver square
 
   abbrev lines : List Line
   lines = firstLines tasks queues period deadline receiver square ++ tableLines T
@@ -152,7 +152,7 @@ module _ (tasks queues : ℕ) (period deadline receiver : List ℕ) (square : Li
       go c (inr (_, inr (_, inr (_, inr (_, inl s))))) = rw (← s .1) (omega arith)
       go c (inr (_, inr (_, inr (_, inr (_, inr s))))) = absurd (s .1)
 
-  pub planning-fits : (r : Refusal) → planOf tasks queues period deadline receiver square .answer ≡ Answer.Refused r → r .row < 256
+  pub planning-fits : (r : Refusal) → planOf tasks queues period deadline priority receiver square .answer ≡ Answer.Refused r → r .row < 256
   planning-fits r e = go (passed-or-stopped lines)
     where
       go : Passed lines ⊎ ((s : Refusal) × Stopped lines s) → r .row < 256
@@ -160,12 +160,12 @@ module _ (tasks queues : ℕ) (period deadline receiver : List ℕ) (square : Li
           let a : Answer.Refused r ≡ Answer.Accepted =
           sym e
           ∙ ap (λ (x : Planned). x .answer)
-          (plan-lines tasks queues period deadline receiver square ∙ passed-good lines refusedPlan (acceptedPlan T) h) in
+          (plan-lines tasks queues period deadline priority receiver square ∙ passed-good lines refusedPlan (acceptedPlan T) h) in
           absurd (let z : _≡_ {A = ℕ} 0 1 = cc in omega arith)
       go (inr h) =
           let a : Answer.Refused r ≡ Answer.Refused (h .0) =
           sym e
           ∙ ap (λ (x : Planned). x .answer)
-          (plan-lines tasks queues period deadline receiver square ∙ stopped-refused lines (h .0) refusedPlan (acceptedPlan T) (h .1)) in
+          (plan-lines tasks queues period deadline priority receiver square ∙ stopped-refused lines (h .0) refusedPlan (acceptedPlan T) (h .1)) in
           let same : r ≡ h .0 = cc in
           rw same (named-small (h .0) (h .1))

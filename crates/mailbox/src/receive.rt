@@ -17,6 +17,7 @@ impl State {
             &plan.sends,
             &plan.period,
             &plan.deadline,
+            &plan.priority,
             &plan.receiver,
             &plan.size,
             &plan.place,

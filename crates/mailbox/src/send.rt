@@ -25,6 +25,7 @@ impl State {
             &plan.sends,
             &plan.period,
             &plan.deadline,
+            &plan.priority,
             &plan.receiver,
             &plan.size,
             &plan.place,

@@ -26,6 +26,7 @@ pub record Queue : Type 0 where
   pub rows : ℕ
   pub period : ℕ → ℕ
   pub deadline : ℕ → ℕ
+  pub priority : ℕ → ℕ
   pub sends : ℕ → Bool
   pub receiver : ℕ
 
@@ -52,9 +53,9 @@ releaseOf q i k = released (q .period i) k
 abbrev pub deadlineOf : Queue → ℕ → ℕ → ℕ
 deadlineOf q i k = due (q .period i) (q .deadline i) k
 
--- Of two messages with equal deadlines row i's goes first: "equal deadlines by the senders' row order in the table."
+-- Of two messages with equal deadlines row i's goes before row j's: "the higher goes first, and equal priorities go by row" (request b).
 unfoldable pub precedes : Queue → ℕ → ℕ → Bool
-precedes q i j = ltb i j
+precedes q i j = cond (eqb (q .priority i) (q .priority j)) (ltb i j) (ltb (q .priority j) (q .priority i))
 
 abbrev pub countOf : Queue → ℕ → ℕ → ℕ
 countOf q t j = count (q .period j) (q .deadline j) t

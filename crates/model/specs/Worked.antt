@@ -1,4 +1,5 @@
--- Document 01's values that are reckoned by hand and marked p1 to p12: one table, proved by one claim about the definitions.
+-- Document 01's values that are reckoned by hand and marked p1 to p12, and behind them four of request b: one table, proved by one claim
+-- about the definitions.
 use Rattle.common.specs.Words.{ℕ, _≤_, arith, Bool, true, false, _&&_, List, [], _∷_, _↔_, refl, T, eqb, getD}
 use Rattle.common.specs.Totals.{sum, most}
 use Rattle.common.specs.Rows.{every}
@@ -10,9 +11,19 @@ use Rattle.model.specs.Checks.{isValid, valid-of}
 use Rattle.model.specs.Slots.{slots-iff}
 
 -- a table of n tasks, a list for each column
+abbrev tableBy : List ℕ → ℕ → List ℕ → List ℕ → List Bool → ℕ → Queue
+tableBy priorities n periods deadlines senders receiver = record {
+  rows = n;
+  period = λ i. getD periods i 0;
+  deadline = λ i. getD deadlines i 0;
+  priority = λ i. getD priorities i 0;
+  sends = λ i. getD senders i false;
+  receiver = receiver;
+}
+
+-- "A line of five bytes has priority 0."
 abbrev tableOf : ℕ → List ℕ → List ℕ → List Bool → ℕ → Queue
-tableOf n periods deadlines senders receiver =
-    record { rows = n; period = λ i. getD periods i 0; deadline = λ i. getD deadlines i 0; sends = λ i. getD senders i false; receiver = receiver }
+tableOf = tableBy []
 
 -- "Table A: tasks 5/5, 7/7, 10/10 (period/deadline); the first two send to the third."
 abbrev pub tableA : Queue
@@ -29,6 +40,21 @@ samePeriods = tableOf 2 (10 ∷ 10 ∷ []) (10 ∷ 10 ∷ []) (true ∷ false �
 -- "sender 10/1, receiver 2/1"
 abbrev fastReceiver : Queue
 fastReceiver = tableOf 2 (10 ∷ 2 ∷ []) (1 ∷ 1 ∷ []) (true ∷ false ∷ []) 1
+
+-- Request b. Tasks 0 and 1 of Table A have a deadline in common, 35, and task 1 has the higher priority; "A maker sorted the rows of his
+-- table by name": the two change places, with their priorities.
+abbrev byPriority : Queue
+byPriority = tableBy (3 ∷ 8 ∷ 0 ∷ []) 3 (5 ∷ 7 ∷ 10 ∷ []) (5 ∷ 7 ∷ 10 ∷ []) (true ∷ true ∷ false ∷ []) 2
+
+abbrev sortedRows : Queue
+sortedRows = tableBy (8 ∷ 3 ∷ 0 ∷ []) 3 (7 ∷ 5 ∷ 10 ∷ []) (7 ∷ 5 ∷ 10 ∷ []) (true ∷ true ∷ false ∷ []) 2
+
+-- Senders 5/5 and 10/10, receiver 5/5, deadline 10 in common: the size changes when two priorities change places.
+abbrev fastFirst : Queue
+fastFirst = tableBy (1 ∷ 0 ∷ 0 ∷ []) 3 (5 ∷ 10 ∷ 5 ∷ []) (5 ∷ 10 ∷ 5 ∷ []) (true ∷ true ∷ false ∷ []) 2
+
+abbrev slowFirst : Queue
+slowFirst = tableBy (0 ∷ 1 ∷ 0 ∷ []) 3 (5 ∷ 10 ∷ 5 ∷ []) (5 ∷ 10 ∷ 5 ∷ []) (true ∷ true ∷ false ∷ []) 2
 
 -- p n: what is computed, and what it has to be
 pub record Row : Type 0 where
@@ -68,6 +94,10 @@ rows =
     ∷ p 10 (slots shorterReceiver ∷ []) (8 ∷ [])
     ∷ p 11 (slots samePeriods ∷ []) (2 ∷ [])
     ∷ p 12 (slots fastReceiver ∷ []) (1 ∷ [])
+    ∷ p 13 (number byPriority 0 6 ∷ number byPriority 1 4 ∷ []) (12 ∷ 11 ∷ [])
+    ∷ p 14 (number sortedRows 1 6 ∷ number sortedRows 0 4 ∷ slots byPriority ∷ slots sortedRows ∷ []) (12 ∷ 11 ∷ 9 ∷ 9 ∷ [])
+    ∷ p 15 (number fastFirst 0 1 ∷ number fastFirst 1 0 ∷ slots fastFirst ∷ []) (2 ∷ 3 ∷ 5 ∷ [])
+    ∷ p 16 (number slowFirst 0 1 ∷ number slowFirst 1 0 ∷ slots slowFirst ∷ []) (3 ∷ 2 ∷ 4 ∷ [])
     ∷ []
 
 -- THE claim

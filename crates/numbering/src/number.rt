@@ -36,6 +36,7 @@ pub fn number_at(plan: Plan, queue: usize, task: usize, job: Job) -> Number
         &plan.sends,
         &plan.period,
         &plan.deadline,
+        &plan.priority,
         plan.tasks,
         queue,
         at,

@@ -45,6 +45,7 @@ pub fn origin_of(plan: Plan, queue: usize, n: Number) -> Origin
         &plan.sends,
         &plan.period,
         &plan.deadline,
+        &plan.priority,
         plan.tasks,
         queue,
         n,

@@ -6,12 +6,13 @@ use Rattle.plan.specs.declared.Plan.{Plan}
 pub use Rattle.plan.specs.Queues.{zeros, sendsInto, queueAt, sizeAt, placeAt, slotsOf}
 
 -- The plan of lent columns. Inner functions are lent a plan's columns one by one, because a plan by value would be copied at every call.
-abbrev pub lentPlan : List Bool → List ℕ → List ℕ → List ℕ → List ℕ → List ℕ → ℕ → ℕ → Plan
-lentPlan sends period deadline receiver size place tasks queues = record {
+abbrev pub lentPlan : List Bool → List ℕ → List ℕ → List ℕ → List ℕ → List ℕ → List ℕ → ℕ → ℕ → Plan
+lentPlan sends period deadline priority receiver size place tasks queues = record {
   tasks = tasks;
   queues = queues;
   period = period;
   deadline = deadline;
+  priority = priority;
   receiver = receiver;
   sends = sends;
   size = size;

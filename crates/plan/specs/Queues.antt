@@ -11,6 +11,7 @@ zeros = record {
   queues = 0;
   period = replicate taskLimit 0;
   deadline = replicate taskLimit 0;
+  priority = replicate taskLimit 0;
   receiver = replicate queueLimit 0;
   sends = replicate cellLimit false;
   size = replicate queueLimit 0;
@@ -26,6 +27,7 @@ queueAt p q = record {
   rows = p .tasks;
   period = λ i. getD (p .period) i 0;
   deadline = λ i. getD (p .deadline) i 0;
+  priority = λ i. getD (p .priority) i 0;
   sends = sendsInto p q;
   receiver = getD (p .receiver) q 0;
 }

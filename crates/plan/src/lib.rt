@@ -13,6 +13,7 @@ pub struct Plan {
     // of each task
     pub period: [u64; Plan::TASKS],
     pub deadline: [u64; Plan::TASKS],
+    pub priority: [u8; Plan::TASKS],
     // of each queue
     pub receiver: [usize; Plan::QUEUES],
     // task i sends into queue q: entry q * TASKS + i
@@ -52,6 +53,7 @@ impl Plan {
             queues: 0,
             period: [0; Plan::TASKS],
             deadline: [0; Plan::TASKS],
+            priority: [0; Plan::TASKS],
             receiver: [0; Plan::QUEUES],
             sends: [false; Plan::CELLS],
             size: [0; Plan::QUEUES],

@@ -102,27 +102,27 @@ not-accepted r p e =
 none-bad : (t : ℕ → Bool) (n : ℕ) → ltb (firstBad t n) n ≡ false → firstBad t n ≡ n
 none-bad t n h = omega (arith, ltb-false (firstBad t n) n h, firstBad-is t n .within)
 
-module _ (tasks queues : ℕ) (period deadline receiver : List ℕ) (square : List (List Bool)) where
+module _ (tasks queues : ℕ) (period deadline priority receiver : List ℕ) (square : List (List Bool)) where
   abbrev T : Plan
-  T = tabled tasks queues period deadline receiver square
+  T = tabled tasks queues period deadline priority receiver square
 
   record Passes : Type 0 where
     checked : Checked T
     cycles : longQueue T ≡ T .queues
     few : sum (leastSize T) (T .queues) ≤ mostSlots
-    plan-is : planOf tasks queues period deadline receiver square .plan ≡ sized T
+    plan-is : planOf tasks queues period deadline priority receiver square .plan ≡ sized T
 
-  passes : planOf tasks queues period deadline receiver square .answer ≡ Answer.Accepted → Passes
+  passes : planOf tasks queues period deadline priority receiver square .answer ≡ Answer.Accepted → Passes
   unfolding planOf tableJudged
   passes e =
-      let p = planOf tasks queues period deadline receiver square .plan in
-      let whole : planOf tasks queues period deadline receiver square ≡ record { answer = Answer.Accepted; plan = p } =
+      let p = planOf tasks queues period deadline priority receiver square .plan in
+      let whole : planOf tasks queues period deadline priority receiver square ≡ record { answer = Answer.Accepted; plan = p } =
       λ i. record { answer = e i; plan = p } in
       let table = judged-good refusedPlan (tableJudged T) _ (λ r. not-accepted r p)
       (firstLines tasks queues period deadline receiver square) whole in
       let good = judged-good refusedPlan (acceptedPlan T) _ (λ r. not-accepted r p) (tableLines T) (table .1) in
       let checked : Checked T =
-      table-checked tasks queues period deadline receiver square (not-false _ (table .0 .0)) (none-bad _ tasks (table .0 .1 .0))
+      table-checked tasks queues period deadline priority receiver square (not-false _ (table .0 .0)) (none-bad _ tasks (table .0 .1 .0))
       (none-bad _ queues (table .0 .1 .1 .0)) in
       record {
         checked = checked;
@@ -132,20 +132,20 @@ module _ (tasks queues : ℕ) (period deadline receiver : List ℕ) (square : Li
       }
 
   -- the rules in document 01's order, as one list: the first line that applies is the answer
-  pub plan-lines : planOf tasks queues period deadline receiver square
-      ≡ (let t = tabled tasks queues period deadline receiver square in
+  pub plan-lines : planOf tasks queues period deadline priority receiver square
+      ≡ (let t = tabled tasks queues period deadline priority receiver square in
       judged (firstLines tasks queues period deadline receiver square ++ tableLines t) refusedPlan (acceptedPlan t))
   unfolding planOf tableJudged
   plan-lines = refl
 
   -- "A refused planning gives the plan of all zeros"
-  pub refused-zeros : (r : Refusal) → planOf tasks queues period deadline receiver square .answer ≡ Answer.Refused r →
-      planOf tasks queues period deadline receiver square .plan ≡ zeros
+  pub refused-zeros : (r : Refusal) → planOf tasks queues period deadline priority receiver square .answer ≡ Answer.Refused r →
+      planOf tasks queues period deadline priority receiver square .plan ≡ zeros
   refused-zeros r e = go (passed-or-stopped (firstLines tasks queues period deadline receiver square ++ tableLines T))
     where
       go : Passed (firstLines tasks queues period deadline receiver square ++ tableLines T)
           ⊎ ((s : Refusal) × Stopped (firstLines tasks queues period deadline receiver square ++ tableLines T) s) →
-          planOf tasks queues period deadline receiver square .plan ≡ zeros
+          planOf tasks queues period deadline priority receiver square .plan ≡ zeros
       go (inl h) =
           let good = plan-lines ∙ passed-good (firstLines tasks queues period deadline receiver square ++ tableLines T) refusedPlan
           (acceptedPlan T) h in
@@ -157,12 +157,12 @@ module _ (tasks queues : ℕ) (period deadline receiver : List ℕ) (square : Li
           (acceptedPlan T)
           (h .1))
 
-  module _ (yes : planOf tasks queues period deadline receiver square .answer ≡ Answer.Accepted) where
+  module _ (yes : planOf tasks queues period deadline priority receiver square .answer ≡ Answer.Accepted) where
     -- an accepted plan holds the table with the least sizes and their places
-    pub accepted-is : planOf tasks queues period deadline receiver square .plan ≡ sized (tabled tasks queues period deadline receiver square)
+    pub accepted-is : planOf tasks queues period deadline priority receiver square .plan ≡ sized (tabled tasks queues period deadline priority receiver square)
     accepted-is = passes yes .plan-is
 
-    pub accepted-made : Made (planOf tasks queues period deadline receiver square .plan)
+    pub accepted-made : Made (planOf tasks queues period deadline priority receiver square .plan)
     accepted-made = let h = passes yes in rw accepted-is (sized-made (h .checked) (h .cycles) (h .few))
 
 -- ## What a plan we made keeps

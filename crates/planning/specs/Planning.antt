@@ -24,6 +24,7 @@ sized t = record {
   queues = t .queues;
   period = t .period;
   deadline = t .deadline;
+  priority = t .priority;
   receiver = t .receiver;
   sends = t .sends;
   size = leastSizes t;
@@ -62,10 +63,10 @@ firstLines tasks queues period deadline receiver square =
     ∷ ltb (badQueue square receiver tasks queues) queues gives named ReceiverOrSender (badQueue square receiver tasks queues)
     ∷ []
 
-unfoldable pub planOf : ℕ → ℕ → List ℕ → List ℕ → List ℕ → List (List Bool) → Planned
-planOf tasks queues period deadline receiver square =
+unfoldable pub planOf : ℕ → ℕ → List ℕ → List ℕ → List ℕ → List ℕ → List (List Bool) → Planned
+planOf tasks queues period deadline priority receiver square =
     judged (firstLines tasks queues period deadline receiver square) refusedPlan
-    (tableJudged (tabled tasks queues period deadline receiver square))
+    (tableJudged (tabled tasks queues period deadline priority receiver square))
 
 -- "a plan we made": what every accepted planning gives (law `accepted-made`)
 pub record Made (p : Plan) : Type 0 where

@@ -22,9 +22,9 @@ abbrev pub bad : ℕ → ℕ → Said
 bad line row = (0x7f, line ∷ row ∷ [])
 
 -- "Planning tests 1; 2 by rows; 3 by queues; then 4 before 5 queue by queue; then 6."
-pub plan-says : (tasks queues : ℕ) (period deadline receiver : List ℕ) (square : List (List Bool)) →
-    let t = tabled tasks queues period deadline receiver square in
-    answerSays (planOf tasks queues period deadline receiver square .answer)
+pub plan-says : (tasks queues : ℕ) (period deadline priority receiver : List ℕ) (square : List (List Bool)) →
+    let t = tabled tasks queues period deadline priority receiver square in
+    answerSays (planOf tasks queues period deadline priority receiver square .answer)
     ≡ cond (not (countsGood tasks queues)) (no 1)
     (cond (ltb (badTask period deadline tasks) tasks) (bad 2 (badTask period deadline tasks))
     (cond (ltb (badQueue square receiver tasks queues) queues) (bad 3 (badQueue square receiver tasks queues))
@@ -33,8 +33,8 @@ pub plan-says : (tasks queues : ℕ) (period deadline receiver : List ℕ) (squa
     (cond (ltb mostSlots (sum (leastSize t) queues)) (no 6)
     (0, []))))))
 unfolding tabled
-plan-says tasks queues period deadline receiver square =
-    let t = tabled tasks queues period deadline receiver square in
+plan-says tasks queues period deadline priority receiver square =
+    let t = tabled tasks queues period deadline priority receiver square in
     let lines = firstLines tasks queues period deadline receiver square ++ tableLines t in
-    ap (λ (x : Planned). answerSays (x .answer)) (plan-lines tasks queues period deadline receiver square)
+    ap (λ (x : Planned). answerSays (x .answer)) (plan-lines tasks queues period deadline priority receiver square)
     ∙ judged-map (λ (x : Planned). answerSays (x .answer)) lines refusedPlan (acceptedPlan t)

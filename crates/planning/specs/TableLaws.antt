@@ -35,14 +35,14 @@ flat-beyond queues square q i h l b =
     let row : (q * taskLimit + i) / taskLimit ≡ q = omega arith in
     table-at (flatEntry queues square) cellLimit (q * taskLimit + i) false (omega arith) ∙ rw (row, le-ltb q queues h)
 
-module _ (tasks queues : ℕ) (period deadline receiver : List ℕ) (square : List (List Bool)) where
+module _ (tasks queues : ℕ) (period deadline priority receiver : List ℕ) (square : List (List Bool)) where
   pub table-checked : countsGood tasks queues ≡ true → badTask period deadline tasks ≡ tasks →
       badQueue square receiver tasks queues ≡ queues →
-      Checked (tabled tasks queues period deadline receiver square)
+      Checked (tabled tasks queues period deadline priority receiver square)
   unfolding tabled
   table-checked c t u =
       let counts = counts-iff tasks queues .0 c in
-      checked-of (tabled tasks queues period deadline receiver square) square
+      checked-of (tabled tasks queues period deadline priority receiver square) square
       (λ q i l b. sym (flat-at queues square q i (counts .1 .1) l b))
       c
       (firstBad-same _ (λ i. taskGood (getD period i 0) (getD deadline i 0)) tasks

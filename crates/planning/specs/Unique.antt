@@ -3,9 +3,9 @@ use Rattle.common.specs.Words.{ℕ, Bool, List, _≡_, sym, _∙_}
 use Rattle.planning.specs.Planning.{planOf}
 use Rattle.planning.specs.declared.Planned.{Planned}
 
-abbrev pub PlanGives : ℕ → ℕ → List ℕ → List ℕ → List ℕ → List (List Bool) → Planned → Type 0
-PlanGives tasks queues period deadline receiver square r = r ≡ planOf tasks queues period deadline receiver square
+abbrev pub PlanGives : ℕ → ℕ → List ℕ → List ℕ → List ℕ → List ℕ → List (List Bool) → Planned → Type 0
+PlanGives tasks queues period deadline priority receiver square r = r ≡ planOf tasks queues period deadline priority receiver square
 
-pub make-plan-unique : (tasks queues : ℕ) (period deadline receiver : List ℕ) (square : List (List Bool)) (r s : Planned) →
-    PlanGives tasks queues period deadline receiver square r → PlanGives tasks queues period deadline receiver square s → r ≡ s
-make-plan-unique tasks queues period deadline receiver square r s a b = a ∙ sym b
+pub make-plan-unique : (tasks queues : ℕ) (period deadline priority receiver : List ℕ) (square : List (List Bool)) (r s : Planned) →
+    PlanGives tasks queues period deadline priority receiver square r → PlanGives tasks queues period deadline priority receiver square s → r ≡ s
+make-plan-unique tasks queues period deadline priority receiver square r s a b = a ∙ sym b

@@ -67,17 +67,18 @@ fn judged_table(table: Plan) -> Planned
     sized(table)
 }
 
-// The plan of a table: so many tasks, each with a period and a deadline, and so many queues, each with a receiver and a row of the
+// The plan of a table: so many tasks, each with a period, a deadline and a priority, and so many queues, each with a receiver and a row of the
 // square that says which tasks send into it.
 pub fn make_plan(
     tasks: usize,
     queues: usize,
     period: [u64; Plan::TASKS],
     deadline: [u64; Plan::TASKS],
+    priority: [u8; Plan::TASKS],
     receiver: [usize; Plan::QUEUES],
     square: [[bool; Plan::TASKS]; Plan::QUEUES],
 ) -> Planned
-    ensures { λ r. ⌜ PlanGives tasks queues period deadline receiver square r ⌝ }
+    ensures { λ r. ⌜ PlanGives tasks queues period deadline priority receiver square r ⌝ }
 {
     if !rules::counts_good(tasks, queues) {
         return refused(Rule::TaskOrQueueCount, 0);
@@ -90,5 +91,5 @@ pub fn make_plan(
     if queue < queues {
         return refused(Rule::ReceiverOrSender, queue);
     }
-    judged_table(tables::tabled(tasks, queues, period, deadline, receiver, square))
+    judged_table(tables::tabled(tasks, queues, period, deadline, priority, receiver, square))
 }

@@ -25,6 +25,7 @@ fn look_on<'a>(
     sends: &'a [bool; Plan::CELLS],
     period: &'a [u64; Plan::TASKS],
     deadline: &'a [u64; Plan::TASKS],
+    priority: &'a [u8; Plan::TASKS],
     receiver: &'a [usize; Plan::QUEUES],
     size: &'a [usize; Plan::QUEUES],
     place: &'a [usize; Plan::QUEUES],
@@ -37,20 +38,23 @@ fn look_on<'a>(
     reading: &[u64; Plan::QUEUES],
     remembered: Remembered,
 ) -> Looked
-    requires { ⌜ (sound ≡ soundPlan (lentPlan (now sends) (now period) (now deadline) (now receiver) (now size) (now place) tasks queues))
-        × Remembers (lentPlan (now sends) (now period) (now deadline) (now receiver) (now size) (now place) tasks queues) remembered ⌝ }
+    requires { ⌜ (sound ≡ soundPlan (lentPlan (now sends) (now period) (now deadline) (now priority) (now receiver)
+        (now size) (now place) tasks queues))
+        × Remembers (lentPlan (now sends) (now period) (now deadline) (now priority) (now receiver)
+        (now size) (now place) tasks queues) remembered ⌝ }
     ensures { λ r. ⌜ (r .answer ≡ look (before .0) (getD (now (reading .entry)) queue 0)
-        (lentPlan (now (sends .entry)) (now (period .entry)) (now (deadline .entry)) (now (receiver .entry))
-        (now (size .entry)) (now (place .entry)) tasks queues)
+        (lentPlan (now (sends .entry)) (now (period .entry)) (now (deadline .entry)) (now (priority .entry))
+        (now (receiver .entry)) (now (size .entry)) (now (place .entry)) tasks queues)
         (now (memory .entry)) queue (at .0))
-        × Remembers (lentPlan (now (sends .entry)) (now (period .entry)) (now (deadline .entry)) (now (receiver .entry))
-        (now (size .entry)) (now (place .entry)) tasks queues) (r .remembered) ⌝ }
+        × Remembers (lentPlan (now (sends .entry)) (now (period .entry)) (now (deadline .entry)) (now (priority .entry))
+        (now (receiver .entry)) (now (size .entry)) (now (place .entry)) tasks queues) (r .remembered) ⌝ }
 {
     let verdict = judge::judge_receive(
         sound,
         sends,
         period,
         deadline,
+        priority,
         receiver,
         size,
         place,
@@ -90,6 +94,7 @@ fn look_on<'a>(
         sends,
         period,
         deadline,
+        priority,
         tasks,
         queue,
         next,
@@ -108,6 +113,7 @@ pub fn receive_on<'a>(
     sends: &'a [bool; Plan::CELLS],
     period: &'a [u64; Plan::TASKS],
     deadline: &'a [u64; Plan::TASKS],
+    priority: &'a [u8; Plan::TASKS],
     receiver: &'a [usize; Plan::QUEUES],
     size: &'a [usize; Plan::QUEUES],
     place: &'a [usize; Plan::QUEUES],
@@ -120,20 +126,23 @@ pub fn receive_on<'a>(
     before: Tick,
     remembered: Remembered,
 ) -> ReceivedAt
-    requires { ⌜ (sound ≡ soundPlan (lentPlan (now sends) (now period) (now deadline) (now receiver) (now size) (now place) tasks queues))
-        × Remembers (lentPlan (now sends) (now period) (now deadline) (now receiver) (now size) (now place) tasks queues) remembered ⌝ }
+    requires { ⌜ (sound ≡ soundPlan (lentPlan (now sends) (now period) (now deadline) (now priority) (now receiver)
+        (now size) (now place) tasks queues))
+        × Remembers (lentPlan (now sends) (now period) (now deadline) (now priority) (now receiver)
+        (now size) (now place) tasks queues) remembered ⌝ }
     ensures { λ r. ⌜ ReceiveLeaves (before .0) (now (reading .entry))
-        (lentPlan (now (sends .entry)) (now (period .entry)) (now (deadline .entry)) (now (receiver .entry))
-        (now (size .entry)) (now (place .entry)) tasks queues)
+        (lentPlan (now (sends .entry)) (now (period .entry)) (now (deadline .entry)) (now (priority .entry))
+        (now (receiver .entry)) (now (size .entry)) (now (place .entry)) tasks queues)
         (now (memory .entry)) queue (at .0) r (now (reading .exit))
-        × Remembers (lentPlan (now (sends .entry)) (now (period .entry)) (now (deadline .entry)) (now (receiver .entry))
-        (now (size .entry)) (now (place .entry)) tasks queues) (r .remembered) ⌝ }
+        × Remembers (lentPlan (now (sends .entry)) (now (period .entry)) (now (deadline .entry)) (now (priority .entry))
+        (now (receiver .entry)) (now (size .entry)) (now (place .entry)) tasks queues) (r .remembered) ⌝ }
 {
     let looked = look_on(
         sound,
         sends,
         period,
         deadline,
+        priority,
         receiver,
         size,
         place,

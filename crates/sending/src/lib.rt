@@ -13,7 +13,7 @@ ghost use Rattle.plan.specs.Limits.{lastTick};
 ghost use Rattle.plan.specs.Plan.{lentPlan};
 ghost use Rattle.plan.specs.Rules.{soundPlan};
 ghost use Rattle.judge.specs.Lines.{unsentAt};
-ghost use Rattle.counting.specs.Columns.{columnsAt, Lent};
+ghost use Rattle.counting.specs.Columns.{columnsAt, orderedAt, Lent};
 ghost use Rattle.running.specs.Calls.{runningDeadline, runningNumber, sendAnswer, sendMemory, sentTick, sentJobs, SendLeaves};
 ghost use Rattle.running.specs.Stepping.{CanRecord};
 
@@ -22,6 +22,7 @@ fn running_number<'a>(
     sends: &'a [bool; Plan::CELLS],
     period: &'a [u64; Plan::TASKS],
     deadline: &'a [u64; Plan::TASKS],
+    priority: &'a [u8; Plan::TASKS],
     tasks: usize,
     queue: usize,
     task: usize,
@@ -29,12 +30,12 @@ fn running_number<'a>(
 ) -> Number
     requires { ⌜ Lent (now sends) (now period) (now deadline) tasks queue × (task < tasks)
         × (runningDeadline (columnsAt (now sends) (now period) (now deadline) tasks queue) task (at .0) ≤ lastTick) ⌝ }
-    ensures { λ r. ⌜ r ≡ message (runningNumber (columnsAt (now (sends .entry)) (now (period .entry)) (now (deadline .entry)) tasks queue) task
-        (at .0)) ⌝ }
+    ensures { λ r. ⌜ r ≡ message (runningNumber
+        (orderedAt (now (sends .entry)) (now (period .entry)) (now (deadline .entry)) (now (priority .entry)) tasks queue) task (at .0)) ⌝ }
 {
     let job = calendar::job_at(period[task], at);
     let due = calendar::deadline_of(period[task], deadline[task], job);
-    counting::number::number_due(sends, period, deadline, tasks, queue, due, task)
+    counting::number::number_due(sends, period, deadline, priority, tasks, queue, due, task)
 }
 
 // Stores a message, and answers as a send does. `sound` says whether the plan is; `before` is the state's tick, and `sent` its column of
@@ -44,6 +45,7 @@ fn store_on<'a>(
     sends: &'a [bool; Plan::CELLS],
     period: &'a [u64; Plan::TASKS],
     deadline: &'a [u64; Plan::TASKS],
+    priority: &'a [u8; Plan::TASKS],
     receiver: &'a [usize; Plan::QUEUES],
     size: &'a [usize; Plan::QUEUES],
     place: &'a [usize; Plan::QUEUES],
@@ -57,14 +59,15 @@ fn store_on<'a>(
     before: Tick,
     sent: &[u64; Plan::CELLS],
 ) -> Sent
-    requires { ⌜ sound ≡ soundPlan (lentPlan (now sends) (now period) (now deadline) (now receiver) (now size) (now place) tasks queues) ⌝ }
+    requires { ⌜ sound ≡ soundPlan (lentPlan (now sends) (now period) (now deadline) (now priority) (now receiver)
+        (now size) (now place) tasks queues) ⌝ }
     ensures { λ r. ⌜ (r ≡ sendAnswer (before .0) (unsentAt (now (sent .entry)) queue task)
-        (lentPlan (now (sends .entry)) (now (period .entry)) (now (deadline .entry)) (now (receiver .entry))
-        (now (size .entry)) (now (place .entry)) tasks queues)
+        (lentPlan (now (sends .entry)) (now (period .entry)) (now (deadline .entry)) (now (priority .entry))
+        (now (receiver .entry)) (now (size .entry)) (now (place .entry)) tasks queues)
         (now (memory .entry)) queue task (at .0) (now (payload .entry)))
         × (now (memory .exit) ≡ sendMemory (before .0) (unsentAt (now (sent .entry)) queue task)
-        (lentPlan (now (sends .entry)) (now (period .entry)) (now (deadline .entry)) (now (receiver .entry))
-        (now (size .entry)) (now (place .entry)) tasks queues)
+        (lentPlan (now (sends .entry)) (now (period .entry)) (now (deadline .entry)) (now (priority .entry))
+        (now (receiver .entry)) (now (size .entry)) (now (place .entry)) tasks queues)
         (now (memory .entry)) queue task (at .0) (now (payload .entry))) ⌝ }
 {
     let verdict = judge::judge_send(
@@ -72,6 +75,7 @@ fn store_on<'a>(
         sends,
         period,
         deadline,
+        priority,
         receiver,
         size,
         place,
@@ -88,7 +92,7 @@ fn store_on<'a>(
     if let Verdict::Refused(refusal) = verdict {
         return Sent::Refused(refusal);
     }
-    let number = running_number(sends, period, deadline, tasks, queue, task, at);
+    let number = running_number(sends, period, deadline, priority, tasks, queue, task, at);
     let slots = size[queue];
     slots::store(
         memory,
@@ -127,6 +131,7 @@ pub fn send_on<'a>(
     sends: &'a [bool; Plan::CELLS],
     period: &'a [u64; Plan::TASKS],
     deadline: &'a [u64; Plan::TASKS],
+    priority: &'a [u8; Plan::TASKS],
     receiver: &'a [usize; Plan::QUEUES],
     size: &'a [usize; Plan::QUEUES],
     place: &'a [usize; Plan::QUEUES],
@@ -140,10 +145,11 @@ pub fn send_on<'a>(
     payload: &[u8],
     before: Tick,
 ) -> SentAt
-    requires { ⌜ sound ≡ soundPlan (lentPlan (now sends) (now period) (now deadline) (now receiver) (now size) (now place) tasks queues) ⌝ }
+    requires { ⌜ sound ≡ soundPlan (lentPlan (now sends) (now period) (now deadline) (now priority) (now receiver)
+        (now size) (now place) tasks queues) ⌝ }
     ensures { λ r. ⌜ SendLeaves (before .0) (now (sent .entry))
-        (lentPlan (now (sends .entry)) (now (period .entry)) (now (deadline .entry)) (now (receiver .entry))
-        (now (size .entry)) (now (place .entry)) tasks queues)
+        (lentPlan (now (sends .entry)) (now (period .entry)) (now (deadline .entry)) (now (priority .entry))
+        (now (receiver .entry)) (now (size .entry)) (now (place .entry)) tasks queues)
         (now (memory .entry)) queue task (at .0) (now (payload .entry)) r (now (sent .exit)) (now (memory .exit)) ⌝ }
 {
     let answer = store_on(
@@ -151,6 +157,7 @@ pub fn send_on<'a>(
         sends,
         period,
         deadline,
+        priority,
         receiver,
         size,
         place,

@@ -8,7 +8,7 @@ use Rattle.model.specs.Model.{receiverPeriod, wantedFor, horizon, outdated, nee
 use Rattle.model.specs.Number.{number-iff}
 use Rattle.plan.specs.Plan.{queueAt}
 use Rattle.plan.specs.declared.Plan.{Plan}
-use Rattle.counting.specs.Columns.{numberDue, planColumns}
+use Rattle.counting.specs.Columns.{numberDue, planOrdered}
 
 abbrev pub horizonFor : ℕ → ℕ → ℕ → ℕ
 horizonFor chart wanted r = released chart ((r - wanted) / chart)
@@ -45,7 +45,7 @@ unfolding number
 outdated-less q v chart wanted i k s =
     lt-of-not-le (λ h. omega (arith, number-iff q v i k s _ .0 h, horizon-back chart wanted (releaseOf q i k), v .deadline-pos i (s .row)))
 
-pub rowSlots-columns : (p : Plan) (q H i : ℕ) →
-    rowSlotsFor (planColumns p q) (receiverPeriod (queueAt p q)) (wantedFor (queueAt p q)) H i ≡ rowSlots (queueAt p q) H i
+pub rowSlots-ordered : (p : Plan) (q H i : ℕ) →
+    rowSlotsFor (planOrdered p q) (receiverPeriod (queueAt p q)) (wantedFor (queueAt p q)) H i ≡ rowSlots (queueAt p q) H i
 unfolding rowSlots need number outdated horizon upTo followers dueAt precedes
-rowSlots-columns p q H i = refl
+rowSlots-ordered p q H i = refl

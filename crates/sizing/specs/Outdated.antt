@@ -1,8 +1,9 @@
 -- What is known to be outdated at a release, from what was known at one before it.
-use Rattle.common.specs.Words.{ℕ, _+_, _<_, _≤_, cond, ⊎-elim, ap, _≡_, ltb, lt-ltb, le-ltb}
+use Rattle.common.specs.Words.{ℕ, _+_, _<_, _≤_, Bool, cond, List, ⊎-elim, ap, _≡_, ltb, lt-ltb, le-ltb}
 use Rattle.common.specs.Tests.{lt-or-le}
 use Rattle.model.specs.Model.{Queue, upTo}
 use Rattle.calendar.specs.Calendar.{tick}
+use Rattle.counting.specs.Columns.{columnsAt, orderedAt, Lent, upTo-ordered}
 use Rattle.sizing.specs.Needs.{horizonFor, horizon-stays, horizon-ahead, OutdatedFrom}
 use Rattle.sizing.specs.declared.sizes.Outdated.{Outdated}
 
@@ -11,6 +12,14 @@ unfoldable pub outdatedNext : Queue → ℕ → ℕ → ℕ → Outdated → Out
 outdatedNext q chart wanted r known =
     cond (ltb r (known .until .0)) known
     (record { count = upTo q (horizonFor chart wanted r); until = tick (horizonFor chart wanted r + wanted + chart) })
+
+-- whatever the priorities are
+pub outdated-ordered : {sends : List Bool} {period deadline : List ℕ} {tasks q : ℕ} → Lent sends period deadline tasks q →
+    (priority : List ℕ) (chart wanted r : ℕ) (known : Outdated) →
+    outdatedNext (columnsAt sends period deadline tasks q) chart wanted r known
+    ≡ outdatedNext (orderedAt sends period deadline priority tasks q) chart wanted r known
+unfolding outdatedNext
+outdated-ordered l priority chart wanted r known = rw (upTo-ordered l priority (horizonFor chart wanted r))
 
 -- it holds at the release, and from there on
 pub outdated-next : (q : Queue) (chart wanted r : ℕ) (known : Outdated) → 1 ≤ chart →

@@ -10,7 +10,7 @@ ghost use Rattle.model.specs.Model.{Sender, deadlineOf, slotsOver};
 ghost use Rattle.calendar.specs.Calendar.{tick};
 ghost use Rattle.plan.specs.Limits.{lastTick, longestPeriod, longestHyperperiod};
 ghost use Rattle.plan.specs.Plan.{queueAt, Usable};
-ghost use Rattle.counting.specs.Columns.{columnsAt, Lent};
+ghost use Rattle.counting.specs.Columns.{columnsAt, orderedAt, Lent};
 ghost use Rattle.sizing.specs.Needs.{horizonFor, numberFor, rowSlotsFor};
 ghost use Rattle.sizing.specs.Outdated.{outdatedNext};
 
@@ -77,6 +77,7 @@ fn need_of<'a>(
     sends: &'a [bool; Plan::CELLS],
     period: &'a [u64; Plan::TASKS],
     deadline: &'a [u64; Plan::TASKS],
+    priority: &'a [u8; Plan::TASKS],
     tasks: usize,
     queue: usize,
     task: usize,
@@ -85,17 +86,26 @@ fn need_of<'a>(
     on: bool,
 ) -> u64
     requires { ⌜ Lent (now sends) (now period) (now deadline) tasks queue
-        × Sender (columnsAt (now sends) (now period) (now deadline) tasks queue) task
-        × (deadlineOf (columnsAt (now sends) (now period) (now deadline) tasks queue) task (job .0) ≤ lastTick)
-        × (outdated ≤ numberFor (columnsAt (now sends) (now period) (now deadline) tasks queue) task (job .0)) ⌝ }
+        × Sender (orderedAt (now sends) (now period) (now deadline) (now priority) tasks queue) task
+        × (deadlineOf (orderedAt (now sends) (now period) (now deadline) (now priority) tasks queue) task (job .0) ≤ lastTick)
+        × (outdated ≤ numberFor (orderedAt (now sends) (now period) (now deadline) (now priority) tasks queue) task (job .0)) ⌝ }
     ensures { λ r. ⌜ r ≡ only on
-        (numberFor (columnsAt (now (sends .entry)) (now (period .entry)) (now (deadline .entry)) tasks queue) task (job .0) - outdated) ⌝ }
+        (numberFor (orderedAt (now (sends .entry)) (now (period .entry)) (now (deadline .entry)) (now (priority .entry)) tasks queue) task (job .0) - outdated) ⌝ }
 {
     if !on {
         return 0;
     }
     let due = calendar::deadline_of(period[task], deadline[task], job);
-    let number = counting::number::number_due(sends, period, deadline, tasks, queue, due, task);
+    let number = counting::number::number_due(
+        sends,
+        period,
+        deadline,
+        priority,
+        tasks,
+        queue,
+        due,
+        task,
+    );
     number.0 - outdated
 }
 
@@ -110,6 +120,7 @@ fn row_slots<'a>(
     sends: &'a [bool; Plan::CELLS],
     period: &'a [u64; Plan::TASKS],
     deadline: &'a [u64; Plan::TASKS],
+    priority: &'a [u8; Plan::TASKS],
     tasks: usize,
     queue: usize,
     chart: u64,
@@ -119,9 +130,9 @@ fn row_slots<'a>(
 ) -> u64
     requires { ⌜ Lent (now sends) (now period) (now deadline) tasks queue
         × (1 ≤ chart) × (chart ≤ longestPeriod) × (wanted ≤ longestPeriod)
-        × Sender (columnsAt (now sends) (now period) (now deadline) tasks queue) task
+        × Sender (orderedAt (now sends) (now period) (now deadline) (now priority) tasks queue) task
         × (getD (now period) task 0 ≤ longestPeriod) × (ticks ≤ longestHyperperiod) ⌝ }
-    ensures { λ r. ⌜ r ≡ rowSlotsFor (columnsAt (now (sends .entry)) (now (period .entry)) (now (deadline .entry)) tasks queue)
+    ensures { λ r. ⌜ r ≡ rowSlotsFor (orderedAt (now (sends .entry)) (now (period .entry)) (now (deadline .entry)) (now (priority .entry)) tasks queue)
         chart wanted ticks task ⌝ }
 {
     let jobs = ticks / period[task];
@@ -149,6 +160,7 @@ fn row_slots<'a>(
             sends,
             period,
             deadline,
+            priority,
             tasks,
             queue,
             task,
@@ -166,6 +178,7 @@ fn share<'a>(
     sends: &'a [bool; Plan::CELLS],
     period: &'a [u64; Plan::TASKS],
     deadline: &'a [u64; Plan::TASKS],
+    priority: &'a [u8; Plan::TASKS],
     tasks: usize,
     queue: usize,
     chart: u64,
@@ -176,14 +189,15 @@ fn share<'a>(
     requires { ⌜ Lent (now sends) (now period) (now deadline) tasks queue
         × (1 ≤ chart) × (chart ≤ longestPeriod) × (wanted ≤ longestPeriod) × (task < tasks)
         × (getD (now period) task 0 ≤ longestPeriod) × (ticks ≤ longestHyperperiod) ⌝ }
-    ensures { λ r. ⌜ r ≡ only ((columnsAt (now (sends .entry)) (now (period .entry)) (now (deadline .entry)) tasks queue) .sends task)
-        (rowSlotsFor (columnsAt (now (sends .entry)) (now (period .entry)) (now (deadline .entry)) tasks queue) chart wanted ticks task) ⌝ }
+    ensures { λ r. ⌜ r ≡ only ((orderedAt (now (sends .entry)) (now (period .entry)) (now (deadline .entry)) (now (priority .entry)) tasks queue) .sends task)
+        (rowSlotsFor (orderedAt (now (sends .entry)) (now (period .entry)) (now (deadline .entry)) (now (priority .entry)) tasks queue) chart wanted ticks task) ⌝ }
 {
     if sends[queue * Plan::TASKS + task] {
         row_slots(
             sends,
             period,
             deadline,
+            priority,
             tasks,
             queue,
             chart,
@@ -210,6 +224,7 @@ pub fn slots_over(plan: Plan, queue: usize, ticks: u64) -> u64
             &plan.sends,
             &plan.period,
             &plan.deadline,
+            &plan.priority,
             plan.tasks,
             queue,
             chart,

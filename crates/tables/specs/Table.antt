@@ -20,12 +20,13 @@ flatEntry queues square c = ltb (c / taskLimit) queues && entry square (c / task
 abbrev pub flat : ℕ → List (List Bool) → List Bool
 flat queues square = table (flatEntry queues square) cellLimit
 
-unfoldable pub tabled : ℕ → ℕ → List ℕ → List ℕ → List ℕ → List (List Bool) → Plan
-tabled tasks queues period deadline receiver square = record {
+unfoldable pub tabled : ℕ → ℕ → List ℕ → List ℕ → List ℕ → List ℕ → List (List Bool) → Plan
+tabled tasks queues period deadline priority receiver square = record {
   tasks = tasks;
   queues = queues;
   period = counted taskLimit tasks period;
   deadline = counted taskLimit tasks deadline;
+  priority = counted taskLimit tasks priority;
   receiver = counted queueLimit queues receiver;
   sends = flat queues square;
   size = replicate queueLimit 0;

@@ -23,6 +23,24 @@ fn task_column(tasks: usize, values: [u64; Plan::TASKS]) -> [u64; Plan::TASKS]
     out
 }
 
+// A priority is a byte.
+fn byte_within(on: bool, value: u8) -> u8
+    ensures { λ r. ⌜ r ≡ only on value ⌝ }
+{
+    if on { value } else { 0 }
+}
+
+// The priorities, a column of the tasks.
+fn byte_column(tasks: usize, values: [u8; Plan::TASKS]) -> [u8; Plan::TASKS]
+    ensures { λ r. ⌜ r ≡ counted taskLimit tasks values ⌝ }
+{
+    let mut out = [0; Plan::TASKS];
+    for i in 0..Plan::TASKS {
+        out[i] = byte_within(i < tasks, values[i]);
+    }
+    out
+}
+
 // The receivers, a column of the queues.
 fn queue_column(queues: usize, values: [usize; Plan::QUEUES]) -> [usize; Plan::QUEUES]
     ensures { λ r. ⌜ r ≡ counted queueLimit queues values ⌝ }
@@ -58,16 +76,18 @@ pub fn tabled(
     queues: usize,
     period: [u64; Plan::TASKS],
     deadline: [u64; Plan::TASKS],
+    priority: [u8; Plan::TASKS],
     receiver: [usize; Plan::QUEUES],
     square: [[bool; Plan::TASKS]; Plan::QUEUES],
 ) -> Plan
-    ensures { λ r. ⌜ r ≡ tabled tasks queues period deadline receiver square ⌝ }
+    ensures { λ r. ⌜ r ≡ tabled tasks queues period deadline priority receiver square ⌝ }
 {
     Plan {
         tasks,
         queues,
         period: task_column(tasks, period),
         deadline: task_column(tasks, deadline),
+        priority: byte_column(tasks, priority),
         receiver: queue_column(queues, receiver),
         sends: flat_square(queues, square),
         size: [0; Plan::QUEUES],

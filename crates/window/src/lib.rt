@@ -9,7 +9,7 @@ ghost use Rattle.common.specs.Words.{_≡_, _+_, _-_, _^_, _<_, _≤_, max};
 ghost use Rattle.model.specs.Model.{released, upTo, senderOf};
 ghost use Rattle.calendar.specs.Calendar.{tick, message};
 ghost use Rattle.plan.specs.Limits.{lastTick};
-ghost use Rattle.counting.specs.Columns.{columnsAt, Lent};
+ghost use Rattle.counting.specs.Columns.{columnsAt, orderedAt, Lent};
 ghost use Rattle.window.specs.Window.{windowAt, noWindow, runsAt, JobsWindow};
 
 // The window of a receiver's job: the messages with deadlines after tick `low` and up to tick `high`, which have the numbers after
@@ -136,6 +136,7 @@ pub fn sender_in<'a>(
     sends: &'a [bool; Plan::CELLS],
     period: &'a [u64; Plan::TASKS],
     deadline: &'a [u64; Plan::TASKS],
+    priority: &'a [u8; Plan::TASKS],
     tasks: usize,
     queue: usize,
     n: Number,
@@ -145,9 +146,9 @@ pub fn sender_in<'a>(
     requires { ⌜ Lent (now sends) (now period) (now deadline) tasks queue × (high .0 ≤ lastTick)
         × (upTo (columnsAt (now sends) (now period) (now deadline) tasks queue) (low .0) < n .0)
         × (n .0 ≤ upTo (columnsAt (now sends) (now period) (now deadline) tasks queue) (high .0)) ⌝ }
-    ensures { λ r. ⌜ r ≡ senderOf (columnsAt (now (sends .entry)) (now (period .entry)) (now (deadline .entry)) tasks queue) lastTick
-        (n .0) ⌝ }
+    ensures { λ r. ⌜ r ≡ senderOf
+        (orderedAt (now (sends .entry)) (now (period .entry)) (now (deadline .entry)) (now (priority .entry)) tasks queue) lastTick (n .0) ⌝ }
 {
     let at = counting::sender::tick_between(sends, period, deadline, tasks, queue, n, low, high);
-    counting::sender::sender_at(sends, period, deadline, tasks, queue, n, at)
+    counting::sender::sender_at(sends, period, deadline, priority, tasks, queue, n, at)
 }

@@ -12,7 +12,8 @@ use Rattle.calls.proofs.call_line.Tie as tie
 abbrev planOf : tie.Start → Plan
 planOf k =
     let a = k .args in
-    lentPlan (a .sends .now) (a .period .now) (a .deadline .now) (a .receiver .now) (a .size .now) (a .place .now) (a .tasks) (a .queues)
+    lentPlan (a .sends .now) (a .period .now) (a .deadline .now) (a .priority .now) (a .receiver .now)
+    (a .size .now) (a .place .now) (a .tasks) (a .queues)
 
 stopped : tie.Need-returns
 stopped c =

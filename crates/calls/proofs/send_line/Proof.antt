@@ -9,7 +9,8 @@ use Rattle.calls.proofs.send_line.Tie as tie
 abbrev planOf : tie.Start → Plan
 planOf k =
     let a = k .args in
-    lentPlan (a .sends .now) (a .period .now) (a .deadline .now) (a .receiver .now) (a .size .now) (a .place .now) (a .tasks) (a .queues)
+    lentPlan (a .sends .now) (a .period .now) (a .deadline .now) (a .priority .now) (a .receiver .now)
+    (a .size .now) (a .place .now) (a .tasks) (a .queues)
 
 returns : tie.Need-returns
 returns c =

@@ -18,7 +18,8 @@ module _ (s : tie.Else1) where
   abbrev plan : Plan
   plan =
       let a = start .args in
-      lentPlan (a .sends .now) (a .period .now) (a .deadline .now) (a .receiver .now) (a .size .now) (a .place .now) (a .tasks) (a .queues)
+      lentPlan (a .sends .now) (a .period .now) (a .deadline .now) (a .priority .now) (a .receiver .now)
+      (a .size .now) (a .place .now) (a .tasks) (a .queues)
 
   sound : soundPlan plan ≡ true
   sound = passed (start .pre) (s .if1 .left)

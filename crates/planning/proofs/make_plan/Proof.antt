@@ -58,7 +58,7 @@ judged-requires c κs =
     let k = t .before .before in
     let a = k .before .args in
     rw (c .tabled .ensures)
-    (table-checked (a .tasks) (a .queues) (a .period) (a .deadline) (a .receiver) (a .square)
+    (table-checked (a .tasks) (a .queues) (a .period) (a .deadline) (a .priority) (a .receiver) (a .square)
     (rw (k .counts-good .ensures) at (not-false (k .counts-good .result) (t .before .if1 .left)))
     (all-good _ (a .tasks) (rw (t .first-bad-task .ensures) at (u .before .if2 .left)))
     (all-good _ (a .queues) (rw (u .first-bad-queue .ensures) at (c .before .if3 .left))))

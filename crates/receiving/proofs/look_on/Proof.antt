@@ -7,7 +7,7 @@ use Rattle.plan.specs.Limits.{taskLimit, lastTick, payloadBytes}
 use Rattle.plan.specs.Plan.{lentPlan, queueAt, Usable}
 use Rattle.plan.specs.Sound.{usable}
 use Rattle.plan.specs.Verdicts.{verdict, outcome, by-verdict}
-use Rattle.counting.specs.Columns.{planColumns, lent, senderOf-columns}
+use Rattle.counting.specs.Columns.{planColumns, planOrdered, lent, senderOf-ordered}
 use Rattle.slots.specs.Slots.{numberIn}
 use Rattle.judge.specs.Taken.{ReceiveTaken, receiver-fits, receive-taken}
 use Rattle.window.specs.Window.{planWindow, high-within, window-first, window-last, before-fits, Remembers, remembered-window, remembers-window}
@@ -29,11 +29,11 @@ module _ (p : Plan) (m : List ℕ) (q : ℕ) where
     unfolding found
     is-message e = rw (eq-eqb _ _ (sym holds ∙ e), a)
 
-    is-gap : (held .0 ≡ n .0 → ⊥) → {row : ℕ} → row ≡ senderOf (planColumns p q) lastTick (n .0) →
+    is-gap : (held .0 ≡ n .0 → ⊥) → {row : ℕ} → row ≡ senderOf (planOrdered p q) lastTick (n .0) →
         Received.Gap n row ≡ found p m q (n .0)
     unfolding found
     is-gap d e =
-        rw (ne-eqb (numberIn payloadBytes m (slotFor p q (n .0))) (n .0) (λ f. d (holds ∙ f)), e, senderOf-columns p q lastTick (n .0))
+        rw (ne-eqb (numberIn payloadBytes m (slotFor p q (n .0))) (n .0) (λ f. d (holds ∙ f)), e, senderOf-ordered p q lastTick (n .0))
 
   module _ (t : ℕ) where
     -- the verdict decides
@@ -60,7 +60,8 @@ module _ (p : Plan) (m : List ℕ) (q : ℕ) where
 abbrev planOf : tie.Start → Plan
 planOf k =
     let a = k .args in
-    lentPlan (a .sends .now) (a .period .now) (a .deadline .now) (a .receiver .now) (a .size .now) (a .place .now) (a .tasks) (a .queues)
+    lentPlan (a .sends .now) (a .period .now) (a .deadline .now) (a .priority .now) (a .receiver .now)
+    (a .size .now) (a .place .now) (a .tasks) (a .queues)
 
 -- after a clear verdict
 module _ (t : tie.After-enum-told) where

@@ -23,7 +23,8 @@ module _ (before : ℕ) (reading : List ℕ) (p : Plan) (m : List ℕ) (q t : �
 abbrev planOf : tie.Start → Plan
 planOf k =
     let a = k .args in
-    lentPlan (a .sends .now) (a .period .now) (a .deadline .now) (a .receiver .now) (a .size .now) (a .place .now) (a .tasks) (a .queues)
+    lentPlan (a .sends .now) (a .period .now) (a .deadline .now) (a .priority .now) (a .receiver .now)
+    (a .size .now) (a .place .now) (a .tasks) (a .queues)
 
 step-on-requires : tie.Need-step-on-requires
 step-on-requires c κs =

@@ -19,7 +19,8 @@ made before sent p m q i t payload e f = rw (f .0, f .1, e .0) (refl, refl, e .1
 abbrev planOf : tie.Start → Plan
 planOf k =
     let a = k .args in
-    lentPlan (a .sends .now) (a .period .now) (a .deadline .now) (a .receiver .now) (a .size .now) (a .place .now) (a .tasks) (a .queues)
+    lentPlan (a .sends .now) (a .period .now) (a .deadline .now) (a .priority .now) (a .receiver .now)
+    (a .size .now) (a .place .now) (a .tasks) (a .queues)
 
 record-on-requires : tie.Need-record-on-requires
 record-on-requires c κs =

@@ -6,7 +6,7 @@ use Rattle.plan.specs.Limits.{queueLimit, payloadBytes}
 use Rattle.plan.specs.Plan.{lentPlan, queueAt, Usable}
 use Rattle.plan.specs.Sound.{usable}
 use Rattle.plan.specs.Verdicts.{verdict}
-use Rattle.counting.specs.Columns.{planColumns, lent, numberDue-columns}
+use Rattle.counting.specs.Columns.{planOrdered, lent, numberDue-ordered}
 use Rattle.slots.specs.Slots.{stored}
 use Rattle.judge.specs.Taken.{SendTaken, send-taken}
 use Rattle.running.specs.Types.{Number, Slot, Plan, Refusal, Verdict}
@@ -17,9 +17,9 @@ use Rattle.running.specs.Outcomes.{sent-refused, sent-clear}
 use Rattle.sending.proofs.store_on.Statement.{statement}
 use Rattle.sending.proofs.store_on.Tie as tie
 
-number-columns : (p : Plan) (q i k : ℕ) → number (planColumns p q) i k ≡ number (queueAt p q) i k
+number-ordered : (p : Plan) (q i k : ℕ) → number (planOrdered p q) i k ≡ number (queueAt p q) i k
 unfolding number
-number-columns p q i k = numberDue-columns p q (deadlineOf (queueAt p q) i k) i
+number-ordered p q i k = numberDue-ordered p q (deadlineOf (queueAt p q) i k) i
 
 -- what the steps of a send make
 module _ (before unsent : ℕ) (p : Plan) (m : List ℕ) (q i t : ℕ) (payload : List ℕ) {v : Verdict}
@@ -30,18 +30,19 @@ module _ (before unsent : ℕ) (p : Plan) (m : List ℕ) (q i t : ℕ) (payload 
   is-refused : (r : Refusal) → v ≡ Verdict.Refused r → Sends (Sent.Refused r) m
   is-refused r e = let o = sent-refused before unsent p m q i t payload r judged e in (sym (o .0), sym (o .1))
 
-  is-stored : v ≡ Verdict.Clear → (n : Number) (from within : Slot) (m′ : List ℕ) → n ≡ message (runningNumber (planColumns p q) i t) →
+  is-stored : v ≡ Verdict.Clear → (n : Number) (from within : Slot) (m′ : List ℕ) → n ≡ message (runningNumber (planOrdered p q) i t) →
       from ≡ slot (slotFor p q (n .0)) → m′ ≡ stored payloadBytes m (from .0) (n .0) payload → within ≡ slot (slotIn p q (n .0)) →
       Sends (Sent.Stored n within) m′
   is-stored e n from within m′ a b c d =
       let o = sent-clear before unsent p m q i t payload judged e in
-      let f : n ≡ message (runningNumber (queueAt p q) i t) = rw (← number-columns p q i _) a in
+      let f : n ≡ message (runningNumber (queueAt p q) i t) = rw (← number-ordered p q i _) a in
       rw (o .0, o .1, c, d, b, f) (refl, refl)
 
 abbrev planOf : tie.Start → Plan
 planOf k =
     let a = k .args in
-    lentPlan (a .sends .now) (a .period .now) (a .deadline .now) (a .receiver .now) (a .size .now) (a .place .now) (a .tasks) (a .queues)
+    lentPlan (a .sends .now) (a .period .now) (a .deadline .now) (a .priority .now) (a .receiver .now)
+    (a .size .now) (a .place .now) (a .tasks) (a .queues)
 
 -- what is known once the verdict is clear
 module _ (t : tie.After-enum-told) where

@@ -8,9 +8,16 @@ returns : tie.Need-returns
 unfolding tabled
 returns c =
     let d = c .before in
-    rw (c .flat-square .ensures, d .queue-column .ensures, d .before .task-column2 .ensures, d .before .before .task-column .ensures)
+    let b = d .before in
+    rw (
+      c .flat-square .ensures,
+      d .queue-column .ensures,
+      b .byte-column .ensures,
+      b .before .task-column2 .ensures,
+      b .before .before .task-column .ensures,
+    )
 
 pub tabled-spec : {M : Type 1} → statement M
 tabled-spec =
     tie.close
-    (tie.spec (λ c κs. search needs) (λ c κs. search needs) (λ c κs. search needs) (λ c κs. search needs) returns)
+    (tie.spec (λ c κs. search needs) (λ c κs. search needs) (λ c κs. search needs) (λ c κs. search needs) (λ c κs. search needs) returns)

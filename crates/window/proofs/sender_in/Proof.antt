@@ -1,10 +1,11 @@
 -- `sender_in`: the row that is due at the number's deadline and has the number.
-use Rattle.common.specs.Words.{not, _≡_, _∙_, ℕ, _≤_, ltb, needs}
+use Rattle.common.specs.Words.{not, _≡_, _∙_, ap, ℕ, _≤_, ltb, needs}
 use Rattle.common.specs.Rows.{firstBad, firstBad-is}
 use Rattle.model.specs.Model.{Queue, upTo, tickOf, sentBy, senderOf}
 use Rattle.calendar.specs.Calendar.{tick}
 use Rattle.calendar.specs.declared.Tick.{Tick}
 use Rattle.plan.specs.Limits.{lastTick}
+use Rattle.counting.specs.Columns.{tickOf-ordered}
 use Rattle.window.proofs.sender_in.Statement.{statement}
 use Rattle.window.proofs.sender_in.Tie as tie
 
@@ -21,7 +22,10 @@ sender-at-requires : tie.Need-sender-at-requires
 sender-at-requires c κs = rw (c .tick-between .ensures) (c .before .pre .0, tick-within _ lastTick _)
 
 returns : tie.Need-returns
-returns c = c .sender-at .ensures ∙ sender-is _ _ _ _ (c .before .tick-between .ensures)
+returns c =
+    let k = c .before .before in
+    c .sender-at .ensures
+    ∙ sender-is _ _ _ _ (c .before .tick-between .ensures ∙ ap tick (tickOf-ordered (k .pre .0) (k .args .priority .now) lastTick (k .args .n .0)))
 
 pub sender-in-spec : {M : Type 1} → statement M
 sender-in-spec = tie.close (tie.spec (λ c κs. search needs) sender-at-requires returns)

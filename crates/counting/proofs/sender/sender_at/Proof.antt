@@ -2,7 +2,7 @@
 use Rattle.common.specs.Words.{needs, ℕ, _+_, _-_, _<_, _≤_, arith, Bool, true, false, not, _≡_, sym}
 use Rattle.common.specs.Rows.{firstBad, firstBad-none, firstBad-more, firstBad-found}
 use Rattle.model.specs.Model.{sentBy}
-use Rattle.counting.specs.Columns.{columnsAt}
+use Rattle.counting.specs.Columns.{orderedAt}
 use Rattle.counting.proofs.sender.sender_at.Statement.{statement}
 use Rattle.counting.proofs.sender.sender_at.Tie as tie
 
@@ -15,11 +15,11 @@ module _ (s : ℕ → Bool) (i : ℕ) (none : firstBad (λ j. not (s j)) i ≡ i
   more h = firstBad-more _ i none (rw (← e, h))
 
 abbrev Inv-loop : tie.InvT-loop
-Inv-loop sends period deadline tasks queue n at row₀ row =
-    (row ≤ tasks) × (firstBad (λ i. not (sentBy (columnsAt sends period deadline tasks queue) (at .0) (n .0) i)) row ≡ row)
+Inv-loop sends period deadline priority tasks queue n at row₀ row =
+    (row ≤ tasks) × (firstBad (λ i. not (sentBy (orderedAt sends period deadline priority tasks queue) (at .0) (n .0) i)) row ≡ row)
 
 abbrev μ-loop : tie.MeasureT-loop
-μ-loop sends period deadline tasks queue n at row₀ row = tasks - row
+μ-loop sends period deadline priority tasks queue n at row₀ row = tasks - row
 
 loop-holds : tie.Need-loop-holds Inv-loop μ-loop
 loop-holds c = (omega arith, firstBad-none _)
@@ -33,7 +33,7 @@ returns : tie.Need-returns Inv-loop μ-loop
 returns c =
     let l = c .before .before .before in
     let a = l .before .args in
-    found (sentBy (columnsAt (a .sends .now) (a .period .now) (a .deadline .now) (a .tasks) (a .queue)) (a .at .0) (a .n .0)) (l .loop .row)
+    found (sentBy (orderedAt (a .sends .now) (a .period .now) (a .deadline .now) (a .priority .now) (a .tasks) (a .queue)) (a .at .0) (a .n .0)) (l .loop .row)
     (l .loop .inv .1)
     (c .before .sent-by .result) (c .before .sent-by .ensures) (a .tasks) (omega arith) (c .if1 .taken)
 
@@ -42,7 +42,7 @@ loop-again c =
     let l = c .before .before .before in
     let a = l .before .args in (
       omega arith,
-      more (sentBy (columnsAt (a .sends .now) (a .period .now) (a .deadline .now) (a .tasks) (a .queue)) (a .at .0) (a .n .0)) (l .loop .row)
+      more (sentBy (orderedAt (a .sends .now) (a .period .now) (a .deadline .now) (a .priority .now) (a .tasks) (a .queue)) (a .at .0) (a .n .0)) (l .loop .row)
           (l .loop .inv .1)
           (c .before .sent-by .result) (c .before .sent-by .ensures) (c .if1 .left),
     )

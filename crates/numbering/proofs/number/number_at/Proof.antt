@@ -1,22 +1,22 @@
 -- `number::number_at`: equation 2 at the job's deadline.
 use Rattle.common.specs.Words.{needs}
 use Rattle.model.specs.Model.{number}
-use Rattle.counting.specs.Columns.{lent, numberDue-columns}
+use Rattle.counting.specs.Columns.{lent, numberDue-ordered}
 use Rattle.numbering.proofs.number.number_at.Statement.{statement}
 use Rattle.numbering.proofs.number.number_at.Tie as tie
 
 number-due-requires : tie.Need-number-due-requires
 number-due-requires c κs =
-    let d = c .before .before .before .before in
+    let d = c .before .before .before .before .before in
     let p = d .before .before .before .pre in
-    (lent _ _ (p .0), rw (d .deadline-of .ensures) (p .2))
+    (lent _ _ (p .0), rw (d .deadline-of .ensures) (p .2), p .1 .row)
 
 returns : tie.Need-returns
 unfolding number
 returns c =
-    let d = c .before .before .before .before .before in
+    let d = c .before .before .before .before .before .before in
     let a = d .before .before .before .args in
-    rw (c .number-due .ensures, numberDue-columns (a .t1) (a .queue) (d .deadline-of .result .0) (a .task), d .deadline-of .ensures)
+    rw (c .number-due .ensures, numberDue-ordered (a .t1) (a .queue) (d .deadline-of .result .0) (a .task), d .deadline-of .ensures)
 
 pub number-at-spec : {M : Type 1} → statement M
 number-at-spec =

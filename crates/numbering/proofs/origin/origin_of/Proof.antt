@@ -11,7 +11,7 @@ use Rattle.calendar.specs.declared.Tick.{Tick}
 use Rattle.plan.specs.Limits.{taskLimit, lastTick}
 use Rattle.plan.specs.Plan.{queueAt, Usable}
 use Rattle.plan.specs.declared.Plan.{Plan}
-use Rattle.counting.specs.Columns.{planColumns, lent, upTo-columns, tickOf-columns}
+use Rattle.counting.specs.Columns.{planColumns, planOrdered, lent, upTo-columns, tickOf-columns}
 use Rattle.numbering.proofs.origin.origin_of.Statement.{statement}
 use Rattle.numbering.proofs.origin.origin_of.Tie as tie
 
@@ -19,7 +19,7 @@ module _ (p : Plan) (q n : ℕ) (t : Tick) (e : t ≡ tick (tickOf (planColumns 
   tick-is : t .0 ≡ tickOf (queueAt p q) lastTick n
   tick-is = ap (λ u. u .0) e ∙ tickOf-columns p q lastTick n
 
-  module _ (i : ℕ) (f : i ≡ firstBad (λ j. not (sentBy (planColumns p q) (t .0) n j)) (p .tasks)) where
+  module _ (i : ℕ) (f : i ≡ firstBad (λ j. not (sentBy (planOrdered p q) (t .0) n j)) (p .tasks)) where
     sender : i ≡ senderOf (queueAt p q) lastTick n
     unfolding senderOf tickOf upTo followers dueAt precedes
     sender = f ∙ rw tick-is
@@ -48,7 +48,7 @@ tick-between-requires c κs =
 
 sender-at-requires : tie.Need-sender-at-requires
 sender-at-requires c κs =
-    let b = c .before .before .before .before in
+    let b = c .before .before .before .before .before in
     let k = b .before .before .before .before .before in
     let a = k .args in
     let q = queueAt (a .t1) (a .queue) in (
@@ -59,7 +59,7 @@ sender-at-requires c κs =
 
 job-due-requires : tie.Need-job-due-requires
 job-due-requires c κs =
-    let b = c .before .before .before .before .before in
+    let b = c .before .before .before .before .before .before in
     let k = b .before .before .before .before .before in
     let a = k .args in
     row-good (a .t1) (a .queue) (a .n .0) _ (b .tick-between .ensures) _ (c .sender-at .ensures) (k .pre .0) (k .pre .1) (k .pre .2)
@@ -68,7 +68,7 @@ returns : tie.Need-returns
 unfolding jobOf
 returns c =
     let s = c .before in
-    let b = s .before .before .before .before .before in
+    let b = s .before .before .before .before .before .before in
     let a = b .before .before .before .before .before .args in
     let t = b .tick-between .ensures in
     rw (c .job-due .ensures, sender (a .t1) (a .queue) (a .n .0) _ t _ (s .sender-at .ensures), tick-is (a .t1) (a .queue) (a .n .0) _ t)

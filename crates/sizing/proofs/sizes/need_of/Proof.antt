@@ -6,7 +6,7 @@ use Rattle.sizing.proofs.sizes.need_of.Tie as tie
 number-requires : tie.Need-number-due-requires
 number-requires c κs =
     let k = c .before .before .before .before in
-    (k .pre .0, rw (c .deadline-of .ensures) (k .pre .2))
+    (k .pre .0, rw (c .deadline-of .ensures) (k .pre .2), k .pre .1 .row)
 
 sub-result : tie.Need-sub-result
 sub-result c =

@@ -5,22 +5,22 @@ use Rattle.common.specs.Words.{_*_, max, false, _≡_, ap, sym, subst, _∙_}
 use Rattle.common.specs.Totals.{only}
 use Rattle.model.specs.Model.{Queue, Valid, Sender, releaseOf, deadlineOf, upTo}
 use Rattle.plan.specs.Limits.{lastTick, longestPeriod, longestHyperperiod}
-use Rattle.counting.specs.Columns.{columnsAt}
+use Rattle.counting.specs.Columns.{orderedAt, valid-ordered}
 use Rattle.counting.specs.Bounds.{row-positive}
 use Rattle.sizing.specs.Needs.{horizonFor, needFor, OutdatedFrom, outdated-less}
-use Rattle.sizing.specs.Outdated.{outdated-next}
+use Rattle.sizing.specs.Outdated.{outdated-ordered, outdated-next}
 use Rattle.sizing.specs.Deciding.{MostSoFar, most-none, most-more, need-rises, undecided}
 use Rattle.sizing.proofs.sizes.row_slots.Statement.{statement}
 use Rattle.sizing.proofs.sizes.row_slots.Tie as tie
 
 abbrev Inv-loop : tie.InvT-loop
-Inv-loop sends period deadline tasks queue chart wanted task ticks jobs most₀ outdated₀ k₀ most outdated k =
-    let q = columnsAt sends period deadline tasks queue in
+Inv-loop sends period deadline priority tasks queue chart wanted task ticks jobs most₀ outdated₀ k₀ most outdated k =
+    let q = orderedAt sends period deadline priority tasks queue in
     (k ≤ jobs) × MostSoFar (λ k. needFor q chart wanted task (jobs + k)) jobs most k
     × OutdatedFrom q chart wanted (releaseOf q task (jobs + k)) (outdated .until .0) (outdated .count)
 
 abbrev μ-loop : tie.MeasureT-loop
-μ-loop sends period deadline tasks queue chart wanted task ticks jobs most₀ outdated₀ k₀ most outdated k = jobs - k
+μ-loop sends period deadline priority tasks queue chart wanted task ticks jobs most₀ outdated₀ k₀ most outdated k = jobs - k
 
 -- the jobs of the second hyperperiod
 in-time : (q : Queue) → Valid q → (i H k : ℕ) → Sender q i → q .period i ≤ longestPeriod → H ≤ longestHyperperiod →
@@ -39,7 +39,7 @@ module _ (l : tie.In-loop Inv-loop μ-loop) where
   start = l .before .before .before
 
   abbrev columns : Queue
-  columns = let a = start .args in columnsAt (a .sends .now) (a .period .now) (a .deadline .now) (a .tasks) (a .queue)
+  columns = let a = start .args in orderedAt (a .sends .now) (a .period .now) (a .deadline .now) (a .priority .now) (a .tasks) (a .queue)
 
   abbrev task : ℕ
   task = start .args .task
@@ -54,10 +54,13 @@ module _ (l : tie.In-loop Inv-loop μ-loop) where
   abbrev asked : ℕ → ℕ
   asked k = needFor columns (start .args .chart) (start .args .wanted) task (jobs + k)
 
+  valid : Valid columns
+  valid = valid-ordered (start .pre .0) (start .args .priority .now)
+
   within : deadlineOf columns task job ≤ lastTick
   within =
       let p = start .pre in
-      in-time columns (p .0 .valid) task (start .args .ticks) (l .before .loop .k) (p .4) (p .5) (p .6) (l .loop-test .taken)
+      in-time columns valid task (start .args .ticks) (l .before .loop .k) (p .4) (p .5) (p .6) (l .loop-test .taken)
 
 div-jobs : tie.Need-div-jobs Inv-loop μ-loop
 div-jobs c =
@@ -92,7 +95,8 @@ known c =
     let p = start l .pre in
     let r = releaseOf (columns l) (task l) (job l) in
     let k = outdated-next (columns l) (a .chart) (a .wanted) r (l .before .loop .outdated) (p .1) (l .before .loop .inv .2) in
-    let e = rw (← rw (c .before .release-of .ensures) at (c .outdated-at .ensures)) at k in
+    let o = outdated-ordered (p .0) (a .priority .now) (a .chart) (a .wanted) r (l .before .loop .outdated) in
+    let e = rw (← rw (c .before .release-of .ensures) at (c .outdated-at .ensures) ∙ o) at k in
     (e .1 _ (le-refl _) (e .0), e .1)
 
 decides-requires : tie.Need-decides-requires Inv-loop μ-loop
@@ -107,7 +111,7 @@ need-requires c κs =
     let l = o .before .before .before in
     let a = start l .args in
     let p = start l .pre in
-    (p .0, p .4, within l, omega (arith, known o .0, outdated-less (columns l) (p .0 .valid) (a .chart) (a .wanted) (task l) (job l) (p .4)))
+    (p .0, p .4, within l, omega (arith, known o .0, outdated-less (columns l) (valid l) (a .chart) (a .wanted) (task l) (job l) (p .4)))
 
 -- a job that does not decide is not the last, and asks for no more than the next
 passed-over : (d : tie.After-decides Inv-loop μ-loop) → let l = d .before .before .before .before .before in
@@ -127,7 +131,7 @@ passed-over d n =
     let later : releaseOf q (task l) (jobs l + (k + 1)) ≡ releaseOf q (task l) (job l) + P = omega (arith, ap (λ (x : ℕ). x * P) e) in
     let same = known o .1 (releaseOf q (task l) (jobs l + (k + 1))) (omega (arith, later)) (omega (arith, later, u .1)) in (
       omega (arith, l .loop-test .taken, u .0),
-      need-rises q (p .0 .valid) (a .chart) (a .wanted) (task l) (job l) (jobs l + (k + 1)) (p .4) e (same ∙ sym (known o .0)),
+      need-rises q (valid l) (a .chart) (a .wanted) (task l) (job l) (jobs l + (k + 1)) (p .4) e (same ∙ sym (known o .0)),
     )
 
 loop-again : tie.Need-loop-again Inv-loop μ-loop
@@ -150,7 +154,7 @@ returns : tie.Need-returns Inv-loop μ-loop
 returns c =
     let l = c .before in
     let a = l .before .before .args in
-    let q = columnsAt (a .sends .now) (a .period .now) (a .deadline .now) (a .tasks) (a .queue) in
+    let q = orderedAt (a .sends .now) (a .period .now) (a .deadline .now) (a .priority .now) (a .tasks) (a .queue) in
     let e : l .loop .k ≡ a .ticks / q .period (a .task) = omega arith in
     sym (rw e at (l .loop .inv .1 .1 e))
 

@@ -8,7 +8,7 @@ use Rattle.plan.specs.Limits.{taskLimit}
 use Rattle.plan.specs.Plan.{queueAt, Usable}
 use Rattle.plan.specs.declared.Plan.{Plan}
 use Rattle.counting.specs.Columns.{lent}
-use Rattle.sizing.specs.Needs.{rowSlots-columns}
+use Rattle.sizing.specs.Needs.{rowSlots-ordered}
 use Rattle.sizing.proofs.sizes.slots_over.Statement.{statement}
 use Rattle.sizing.proofs.sizes.slots_over.Tie as tie
 
@@ -47,13 +47,13 @@ element-copy-out-wanted-for c = receiver-row (c .before .before .pre .0)
 
 share-requires : tie.Need-share-requires Inv-loop μ-loop
 share-requires c κs =
-    let l = c .before .before .before .before .before in
+    let l = c .before .before .before .before .before .before in
     let k = l .before .before .before .before .before in
     let u = k .pre .0 in
     let q = queueAt (k .args .t1) (k .args .queue) in
     let row = u .valid .receiver-row in
     let chart = u .periods-fit (q .receiver) row in
-    let taken = c .before .before .before .before .loop-test .taken in (
+    let taken = c .before .before .before .before .before .loop-test .taken in (
       lent _ _ u,
       period-pos q (u .valid) (q .receiver) row,
       chart,
@@ -66,12 +66,12 @@ share-requires c κs =
 loop-again : tie.Need-loop-again Inv-loop μ-loop
 loop-again c =
     let s = c .before in
-    let l = s .before .before .before .before .before .before in
+    let l = s .before .before .before .before .before .before .before in
     let w = l .before in
     let a = w .before .before .before .before .args in
     let q = queueAt (a .t1) (a .queue) in
     let e : s .share .result ≡ only (q .sends (l .loop .i)) (rowSlots q (a .ticks) (l .loop .i)) =
-    rw (s .share .ensures, w .wanted-for .ensures q refl, rowSlots-columns (a .t1) (a .queue) (a .ticks) (l .loop .i)) in
+    rw (s .share .ensures, w .wanted-for .ensures q refl, rowSlots-ordered (a .t1) (a .queue) (a .ticks) (l .loop .i)) in
     (omega arith, rw (most-next (λ i. only (q .sends i) (rowSlots q (a .ticks) i)) (l .loop .i), ← l .loop .inv .1, ← e) (c .larger .ensures))
 
 returns : tie.Need-returns Inv-loop μ-loop
