@@ -1,6 +1,6 @@
--- Laws of priorities: the form that the code reads is that of the definition, and a priority goes on by a token.
+-- Laws of priorities: the form that the code reads is that of the definition, a priority goes on by a token, and none is over 255.
 use Rattle.common.specs.Words.{ℕ, _+_, _-_, _<_, _≤_, min, arith, Bool, true, false, List, [], _∷_, drop}
-use Rattle.common.specs.Words.{_≡_, refl, sym, ap, _∙_, eqb, eqb-true, leb, eq-eqb, ne-eqb, le-leb, lt-leb}
+use Rattle.common.specs.Words.{_≡_, refl, sym, ap, _∙_, eqb, eqb-true, leb, leb-true, eq-eqb, ne-eqb, le-leb, lt-leb}
 use Rattle.common.specs.Stores.{part}
 use Rattle.words.specs.Kinds.{ENDED, NUMBER}
 use Rattle.tokens.specs.Tokens.{Token, from}
@@ -9,14 +9,14 @@ use Rattle.tokens.specs.declared.Spot.{Spot}
 use Rattle.tokens.specs.Laws.{either, cases}
 use Rattle.steps.specs.declared.Went.{Went}
 use Rattle.steps.specs.Faults.{fault, noFault, worse, worst}
-use Rattle.steps.specs.Steps.{Step, On, head, next}
+use Rattle.steps.specs.Steps.{Step, On, Stop, head, next}
 use Rattle.steps.specs.Lifted.{lift}
 use Rattle.steps.specs.Laws.{Moved, stopped}
 use Rattle.times.specs.declared.Sum.{Sum}
-use Rattle.times.specs.Times.{sum, withBytes, tenfold, most, Formed}
+use Rattle.times.specs.Times.{sum, withBytes, tenfold, most, Formed, valued}
 use Rattle.times.specs.Sums.{counted, Forms, unformed, oddAt}
 use Rattle.times.specs.Laws.{exact, is-capped, one-moves}
-use Rattle.times.specs.Priorities.{aPriority, mostPriority, priorityOf, priority}
+use Rattle.times.specs.Priorities.{aPriority, mostPriority, priorityOf, priority, priorityFrom}
 
 -- ## The form that the code reads
 
@@ -73,3 +73,16 @@ priority-moves ts =
     (λ e. let m = one-moves ts (λ x. omega (arith, eqb-true (next ts) NUMBER e, x)) in
     either P (s .point) stopped (either P (leb (s .ticks) mostPriority) m m))
     (λ _. stopped)
+
+-- ## No value is greater than that of 255
+
+pub priority-low : (s : Step) → priorityFrom s .value ≤ valued mostPriority
+unfolding priority priorityOf
+priority-low (Stop f) = omega arith
+priority-low (On ts) =
+    let P : Formed → Type 0 = λ (f : Formed). f .value ≤ valued mostPriority in
+    let s = withBytes tenfold (sum 0 0 false true) (head ts .letters) in
+    cases P (eqb (next ts) NUMBER)
+    (λ _. cases P (s .point) (λ _. omega arith)
+    (λ _. cases P (leb (s .ticks) mostPriority) (λ e. omega (arith, leb-true (s .ticks) mostPriority e)) (λ _. omega arith)))
+    (λ _. omega arith)
