@@ -33,7 +33,7 @@ pub struct Table {
     pub queues: usize,
     pub period: [u64; Plan::TASKS],
     pub deadline: [u64; Plan::TASKS],
-    pub priority: [u64; Plan::TASKS],
+    pub priority: [u8; Plan::TASKS],
     pub receiver: [usize; Plan::QUEUES],
     // task i sends into queue q: entry q * TASKS + i
     pub sends: [bool; Plan::CELLS],

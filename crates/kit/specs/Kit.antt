@@ -2,7 +2,7 @@
 use Rattle.common.specs.Words.{ℕ, suc, _-_, _/_, _%_, Bool, false, not, cond, List, [], _∷_, eqb, length}
 use Rattle.common.specs.Table.{table}
 use Rattle.keys.specs.Keys.{key}
-use Rattle.rows.specs.Rows.{Row}
+use Rattle.rows.specs.Rows.{Row, periodColumn, deadlineColumn, priorityColumn}
 use Rattle.index.specs.Index.{aConnection}
 use Rattle.ways.specs.Ways.{cell, look, threadNamed, propertyOf}
 use Rattle.verdict.specs.Verdict.{none}
@@ -14,19 +14,9 @@ use Rattle.findings.specs.declared.Table.{Table}
 abbrev pub saidBy : ℕ → ℕ
 saidBy value = value - 2
 
--- the columns of a thread's Period, Deadline and Priority
-abbrev pub period : ℕ
-period = 5
-
-abbrev pub deadline : ℕ
-deadline = 6
-
-abbrev pub priority : ℕ
-priority = 9
-
 -- "No Deadline anywhere: equal to Period"; in the place of any other there is nothing. "No Priority: 0"
 abbrev pub insteadOf : ℕ → ℕ
-insteadOf c = cond (eqb c deadline) period c
+insteadOf c = cond (eqb c deadlineColumn) periodColumn c
 
 -- "each with the Period, Deadline and Priority": a figure of a thread by its column
 unfoldable pub figureOf : List ℕ → List Row → ℕ → ℕ → ℕ
@@ -55,9 +45,9 @@ tableOf p rows =
     record {
       tasks = length ts;
       queues = length qs;
-      period = table (atOr ts (figureOf p rows period) 0) taskLimit;
-      deadline = table (atOr ts (figureOf p rows deadline) 0) taskLimit;
-      priority = table (atOr ts (figureOf p rows priority) 0) taskLimit;
+      period = table (atOr ts (figureOf p rows periodColumn) 0) taskLimit;
+      deadline = table (atOr ts (figureOf p rows deadlineColumn) 0) taskLimit;
+      priority = table (atOr ts (figureOf p rows priorityColumn) 0) taskLimit;
       receiver = table (atOr qs (receiverOf p rows) 0) queueLimit;
       sends = table (sendsAt p rows ts qs) cellLimit;
     }

@@ -6,7 +6,7 @@ use Rattle.common.specs.Words.{List·getD-append, getD-at}
 use Rattle.common.specs.Tests.{lt-or-le}
 use Rattle.common.specs.Table.{table, table-at}
 use Rattle.keys.specs.Keys.{Meaning, key, meant}
-use Rattle.rows.specs.Rows.{Row, aThread}
+use Rattle.rows.specs.Rows.{Row, aThread, periodColumn, deadlineColumn, priorityColumn}
 use Rattle.index.specs.Found.{found, found-le, found-at, found-first}
 use Rattle.index.specs.Index.{aConnection, keyBy, keysOf}
 use Rattle.index.specs.Laws.{keys-of-length, key-of}
@@ -14,7 +14,7 @@ use Rattle.ways.specs.Ways.{cell}
 use Rattle.verdict.specs.Verdict.{none}
 use Rattle.plan.specs.Limits.{taskLimit, queueLimit, cellLimit}
 use Rattle.chosen.specs.Chosen.{chosenBelow, threadsOf, queuesOf, atOr}
-use Rattle.kit.specs.Kit.{period, deadline, priority, figureOf, receiverOf, joins, sendsAt, tableOf}
+use Rattle.kit.specs.Kit.{figureOf, receiverOf, joins, sendsAt, tableOf}
 
 -- ## What is chosen: exactly what is so, in its order
 
@@ -105,19 +105,19 @@ module _ (p : List ℕ) (rows : List Row) where
 
   -- each with its Period, Deadline and Priority
   pub row-period : (i : ℕ) → i < taskLimit → i < length (threadsOf rows) →
-      getD (tableOf p rows .period) i 0 ≡ figureOf p rows period (getD (threadsOf rows) i 0)
+      getD (tableOf p rows .period) i 0 ≡ figureOf p rows periodColumn (getD (threadsOf rows) i 0)
   unfolding tableOf
-  row-period i l h = column-at (threadsOf rows) (figureOf p rows period) taskLimit i l h
+  row-period i l h = column-at (threadsOf rows) (figureOf p rows periodColumn) taskLimit i l h
 
   pub row-deadline : (i : ℕ) → i < taskLimit → i < length (threadsOf rows) →
-      getD (tableOf p rows .deadline) i 0 ≡ figureOf p rows deadline (getD (threadsOf rows) i 0)
+      getD (tableOf p rows .deadline) i 0 ≡ figureOf p rows deadlineColumn (getD (threadsOf rows) i 0)
   unfolding tableOf
-  row-deadline i l h = column-at (threadsOf rows) (figureOf p rows deadline) taskLimit i l h
+  row-deadline i l h = column-at (threadsOf rows) (figureOf p rows deadlineColumn) taskLimit i l h
 
   pub row-priority : (i : ℕ) → i < taskLimit → i < length (threadsOf rows) →
-      getD (tableOf p rows .priority) i 0 ≡ figureOf p rows priority (getD (threadsOf rows) i 0)
+      getD (tableOf p rows .priority) i 0 ≡ figureOf p rows priorityColumn (getD (threadsOf rows) i 0)
   unfolding tableOf
-  row-priority i l h = column-at (threadsOf rows) (figureOf p rows priority) taskLimit i l h
+  row-priority i l h = column-at (threadsOf rows) (figureOf p rows priorityColumn) taskLimit i l h
 
   pub queue-receiver : (j : ℕ) → j < queueLimit → j < length (queuesOf p rows) →
       getD (tableOf p rows .receiver) j 0 ≡ receiverOf p rows (getD (queuesOf p rows) j 0)

@@ -18,6 +18,7 @@ ghost use Rattle.index.specs.Index.{rowsIn, Indexed};
 ghost use Rattle.ways.specs.Ways.{Known};
 ghost use Rattle.plan.specs.Limits.{taskLimit, queueLimit, cellLimit};
 ghost use Rattle.chosen.specs.Chosen.{threadsOf, queuesOf, chosen, atOr};
+ghost use Rattle.kit.specs.Priorities.{Ranked, InBytes};
 ghost use Rattle.kit.specs.Kit.{saidBy, insteadOf, figureOf, position, receiverOf, joins, sendsAt, tableOf};
 
 const CONNECTION: usize = 7;
@@ -108,6 +109,18 @@ fn figures(
     let mut out = [0u64; Plan::TASKS];
     for i in 0..Plan::TASKS {
         out[i] = figure_at(text, rows, declared, types, count, threads, i, c);
+    }
+    out
+}
+
+// The same figures, each in a byte.
+fn in_bytes(figures: [u64; Plan::TASKS]) -> [u8; Plan::TASKS]
+    requires { ⌜ InBytes figures ⌝ }
+    ensures { λ r. ⌜ r ≡ figures ⌝ }
+{
+    let mut out = [0u8; Plan::TASKS];
+    for i in 0..Plan::TASKS {
+        out[i] = figures[i] as u8;
     }
     out
 }
@@ -256,14 +269,14 @@ pub fn make_table(
     count: usize,
 ) -> Table
     requires { ⌜ Known (now text) (now rows) (now declared) (now types) count × Indexed (now text) 1 (now rows) (now connected) count
-        × Indexed (now text) 2 (now rows) (now queued) count ⌝ }
+        × Indexed (now text) 2 (now rows) (now queued) count × Ranked (rowsIn count (now rows)) ⌝ }
     ensures { λ r. ⌜ r ≡ tableOf (now (text .entry)) (rowsIn count (now (rows .entry))) ⌝ }
 {
     let tasks = threads(rows, count);
     let ports = queues(text, rows, queued, count);
     let period = figures(text, rows, declared, types, count, tasks, PERIOD);
     let deadline = figures(text, rows, declared, types, count, tasks, DEADLINE);
-    let priority = figures(text, rows, declared, types, count, tasks, PRIORITY);
+    let priority = in_bytes(figures(text, rows, declared, types, count, tasks, PRIORITY));
     let receiver = receivers(text, rows, declared, count, tasks, ports);
     let sends = senders(text, rows, connected, count, tasks, ports);
     Table {

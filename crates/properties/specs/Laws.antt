@@ -102,7 +102,8 @@ module _ (q : ℕ) (s : Step) where
   unfolding form
   form-priority e = rw e
 
-  pub form-name : protocol ≤ q → (q ≡ offset → ⊥) → (q ≡ priority → ⊥) → form q s ≡ formed (s ⟫ name) (rightBy q (firstKind s)) []
+  pub form-name : protocol ≤ q → (q ≡ offset → ⊥) → (q ≡ priority → ⊥) →
+      form q s ≡ formed (s ⟫ name) (rightBy q (firstKind s)) []
   unfolding form
   form-name l n m = rw (le-ltb q protocol l, ne-eqb q offset n, ne-eqb q priority m)
 

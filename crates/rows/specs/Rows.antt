@@ -33,6 +33,16 @@ property ps q = getD ps q 0
 abbrev pub threadProperties : List ℕ → List ℕ
 threadProperties ps = property ps 0 ∷ property ps 1 ∷ property ps 2 ∷ property ps 3 ∷ property ps 4 ∷ []
 
+-- the columns of the first two, and of the last
+abbrev pub periodColumn : ℕ
+periodColumn = 5
+
+abbrev pub deadlineColumn : ℕ
+deadlineColumn = 6
+
+abbrev pub priorityColumn : ℕ
+priorityColumn = 9
+
 -- a process implementation: the place of its "process"
 unfoldable pub processRow : ℕ → Row
 processRow p = aProcess ∷ p ∷ p ∷ 0 ∷ 0 ∷ 0 ∷ 0 ∷ 0 ∷ 0 ∷ 0 ∷ []

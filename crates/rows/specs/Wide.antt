@@ -5,16 +5,12 @@ use Rattle.common.specs.Table.{table, table-at}
 use Rattle.tokens.specs.Tokens.{Token}
 use Rattle.tokens.specs.Laws.{cases}
 use Rattle.steps.specs.Steps.{Step, On, Stop}
-use Rattle.rows.specs.Rows.{Row, rowWords, property}
+use Rattle.rows.specs.Rows.{Row, rowWords, property, priorityColumn}
 use Rattle.rows.specs.Said.{Said, Rule, quiet, onward, _⨟_, optionally, repeatBy, repeat, put, noProps, merged, apart, adding}
 
 -- the greatest value of a Priority, which is 2 more than the number
 abbrev pub mostValue : ℕ
 mostValue = 257
-
--- where it stands in a row, and that it is no greater there, nor among the properties
-abbrev pub priorityColumn : ℕ
-priorityColumn = 9
 
 unfoldable pub fits : Row → Bool
 fits row = eqb (length row) rowWords && leb (getD row priorityColumn 0) mostValue
@@ -23,6 +19,7 @@ unfoldable pub wide : List Row → Bool
 wide [] = true
 wide (row ∷ rows) = fits row && wide rows
 
+-- the same among the properties that were found
 abbrev pub Low : List ℕ → Type 0
 Low ps = property ps 4 ≤ mostValue
 
