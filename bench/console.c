@@ -1,12 +1,14 @@
-/* The console of document 01 in C, written for speed alone: the yardstick for the time of
- * other consoles.
+/* The console of document 01, with the priorities of request b, in C and written for speed
+ * alone: the yardstick for the time of other consoles.
  *
  * State is changed in place, nothing is allocated, a line is used where it was read, input and
  * output go through blocks of 64 KiB, and the answers of a block are out before the next read.
  * Two digits become a byte, and a byte two digits, by one look into a table; a digit that is
  * none marks the whole line, which is tested once. Division by a period is a multiplication.
  * The window of a receiver's job is reckoned once, and a gap's sender is looked up in a list
- * that planning leaves. Numbers follow equations 1 and 2 of the source document.
+ * that planning leaves. Planning puts the senders of a queue into the order of their messages
+ * at one deadline, so that a send compares places and neither priorities nor rows. Numbers
+ * follow equations 1 and 2 of the source document.
  *
  * Built by: gcc -O3 console.c -o console
  */
@@ -42,6 +44,7 @@ typedef struct {
 
 typedef struct {
     uint64_t period, deadline;
+    unsigned priority;
     Divisor by;
 } Task;
 
@@ -54,10 +57,12 @@ typedef struct {
 
 typedef struct {
     unsigned receiver, mask;
-    /* Filled by planning: the senders in rising order of rows, the messages of a hyperperiod,
-     * and the row of each of them, number n at (n - 1) mod messages. */
+    /* Filled by planning: the senders in the order of their messages at one deadline, the place
+     * of each row among them, the messages of a hyperperiod, and the row of each of them, number
+     * n at (n - 1) mod messages. */
     unsigned senders;
     Sender sender[MOST_TASKS];
+    unsigned char at[MOST_TASKS];
     uint64_t messages, size, place;
     Divisor by_messages, by_size;
     unsigned char row[MOST_MESSAGES];
@@ -111,12 +116,12 @@ static inline uint64_t up_to(const Queue *q, uint64_t t)
     return sum;
 }
 
-/* Equation 2: deadlines up to this job's, for later rows only those before it. */
-static inline uint64_t number_of(const Queue *q, unsigned row, uint64_t deadline)
+/* Equation 2: deadlines up to this job's, for senders behind this one only those before it. */
+static inline uint64_t number_of(const Queue *q, unsigned at, uint64_t deadline)
 {
     uint64_t sum = 0;
     for (unsigned s = 0; s < q->senders; s++)
-        sum += count(&q->sender[s], deadline - (q->sender[s].row > row));
+        sum += count(&q->sender[s], deadline - (s > at));
     return sum;
 }
 
@@ -145,14 +150,21 @@ static uint64_t hyperperiod_of(const Queue *q)
     return multiple;
 }
 
+/* The higher priority goes first; rows come in rising order, so a row goes behind those of its
+ * own priority. */
 static void set_senders(Queue *q)
 {
     q->senders = 0;
     for (unsigned left = q->mask; left != 0; left &= left - 1) {
         unsigned row = (unsigned)__builtin_ctz(left);
         const Task *a = &task[row];
-        q->sender[q->senders++] = (Sender){ a->by, a->period - a->deadline, row };
+        unsigned s = q->senders++;
+        for (; s > 0 && task[q->sender[s - 1].row].priority < a->priority; s--)
+            q->sender[s] = q->sender[s - 1];
+        q->sender[s] = (Sender){ a->by, a->period - a->deadline, row };
     }
+    for (unsigned s = 0; s < q->senders; s++)
+        q->at[q->sender[s].row] = (unsigned char)s;
 }
 
 /* The most that a message's number is ahead of the messages outdated at its job's release, or
@@ -167,7 +179,7 @@ static uint64_t least_slots(Queue *q, uint64_t hyperperiod, uint64_t most)
         const Task *a = &task[q->sender[s].row];
         uint64_t ended = UINT64_MAX, outdated = 0;
         for (uint64_t t = hyperperiod; t < 2 * hyperperiod; t += a->period) {
-            uint64_t number = number_of(q, q->sender[s].row, t + a->deadline);
+            uint64_t number = number_of(q, s, t + a->deadline);
             uint64_t job = quotient(t - r->deadline, r->by);
             if (job != ended) {
                 ended = job;
@@ -361,7 +373,7 @@ static unsigned send_message(unsigned char *to, const unsigned char *frame)
         return 13;
     q->sent[row] = job + 1;
     now = tick;
-    uint64_t number = number_of(q, row, deadline);
+    uint64_t number = number_of(q, q->at[row], deadline);
     uint64_t place = number - quotient(number, q->by_size) * q->size;
     Slot *target = &slot[q->place + place];
     target->number = number;
@@ -435,10 +447,11 @@ static unsigned take(unsigned char *to, const unsigned char *line, size_t length
             return NO_FRAME;
         return length == SEND ? send_message(to, frame) : 14;
     case '1':
-        if (length != 5 || running || tasks == MOST_TASKS || !decode(line, 5, frame))
+        if ((length != 5 && length != 6) || running || tasks == MOST_TASKS || !decode(line, length, frame))
             return NO_FRAME;
         task[tasks].period = number_in(frame + 1, 2);
         task[tasks].deadline = number_in(frame + 3, 2);
+        task[tasks].priority = length == 6 ? frame[5] : 0;
         tasks++;
         return 0;
     case '2':

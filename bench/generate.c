@@ -2,6 +2,7 @@
  *
  *   generate a CALLS           Table A, that many sends and receives
  *   generate wide CALLS        15 senders, each into 8 queues
+ *   generate priority CALLS    the same, with a priority in each line 01: no sender's row is its place
  *   generate plan TABLES       the largest tables: 8 queues with 4,096 messages each
  *   generate slots TABLES      small tables that rule 6 refuses
  *   generate bad LINES         lines that are no frame
@@ -22,6 +23,9 @@ enum { MOST_TASKS = 16 };
 typedef struct {
     unsigned tasks, senders, queues;
     uint64_t period[MOST_TASKS], deadline[MOST_TASKS];
+    /* Whether a line 01 has its sixth byte, the priority. */
+    int by_priority;
+    unsigned priority[MOST_TASKS];
 } Table;
 
 static uint64_t chance_state = 1;
@@ -55,6 +59,16 @@ static Table table_wide(void)
     return make_table(15, 8, period, deadline);
 }
 
+/* Priorities rise with the rows, two rows having the same: the later pairs go first. */
+static Table table_by_priority(void)
+{
+    Table t = table_wide();
+    t.by_priority = 1;
+    for (unsigned i = 0; i < t.tasks; i++)
+        t.priority[i] = 17 * (i / 2);
+    return t;
+}
+
 static Table table_of_senders(unsigned senders)
 {
     uint64_t period[MOST_TASKS];
@@ -65,8 +79,12 @@ static Table table_of_senders(unsigned senders)
 
 static void write_tasks(const Table *t)
 {
-    for (unsigned i = 0; i < t->tasks; i++)
-        printf("01%04x%04x\n", (unsigned)t->period[i], (unsigned)t->deadline[i]);
+    for (unsigned i = 0; i < t->tasks; i++) {
+        printf("01%04x%04x", (unsigned)t->period[i], (unsigned)t->deadline[i]);
+        if (t->by_priority)
+            printf("%02x", t->priority[i]);
+        putchar('\n');
+    }
 }
 
 static void write_table(const Table *t)
@@ -136,6 +154,12 @@ static uint64_t write_calls(const Table *t, uint64_t tick, Kind kind, uint64_t c
     }
 }
 
+static void write_traffic(Table t, uint64_t calls)
+{
+    write_table(&t);
+    write_calls(&t, 0, TRAFFIC, calls);
+}
+
 static void write_call_input(unsigned senders, uint64_t history, const char *kind, uint64_t count)
 {
     Table t = senders == 0 ? table_a() : table_of_senders(senders);
@@ -198,10 +222,12 @@ int main(int count, char **word)
     setvbuf(stdout, buffer, _IOFBF, sizeof buffer);
     const char *kind = count > 1 ? word[1] : "";
     uint64_t amount = count > 2 ? strtoull(word[2], NULL, 10) : 0;
-    if (count == 3 && (strcmp(kind, "a") == 0 || strcmp(kind, "wide") == 0)) {
-        Table t = strcmp(kind, "a") == 0 ? table_a() : table_wide();
-        write_table(&t);
-        write_calls(&t, 0, TRAFFIC, amount);
+    if (count == 3 && strcmp(kind, "a") == 0) {
+        write_traffic(table_a(), amount);
+    } else if (count == 3 && strcmp(kind, "wide") == 0) {
+        write_traffic(table_wide(), amount);
+    } else if (count == 3 && strcmp(kind, "priority") == 0) {
+        write_traffic(table_by_priority(), amount);
     } else if (count == 3 && strcmp(kind, "plan") == 0) {
         write_largest(amount);
     } else if (count == 3 && strcmp(kind, "slots") == 0) {
@@ -211,7 +237,7 @@ int main(int count, char **word)
     } else if (count == 6 && strcmp(kind, "calls") == 0) {
         write_call_input((unsigned)amount, strtoull(word[3], NULL, 10), word[4], strtoull(word[5], NULL, 10));
     } else {
-        fputs("generate: a | wide | plan | slots | bad NUMBER, or calls SENDERS HISTORY KIND COUNT\n", stderr);
+        fputs("generate: a | wide | priority | plan | slots | bad NUMBER, or calls SENDERS HISTORY KIND COUNT\n", stderr);
         return 2;
     }
     return fflush(stdout) == 0 ? 0 : 1;

@@ -73,7 +73,7 @@ static void put_probe(unsigned n)
     put("  thread Probe_%u extends Base_Probe\n  features\n", n);
     put("    reading: out event data port Reading_%u {Timing => Delayed;};\n", n);
     put("    setting: in data port Reading_%u;\n    store: requires data access Reading_%u;\n", n, n);
-    put("  properties\n    Dispatch_Protocol => Periodic;\n    Deadline => %u ms;\n", 20 + n % 20);
+    put("  properties\n    Dispatch_Protocol => Periodic;\n    Deadline => %u ms;\n    Priority => %u;\n", 20 + n % 20, n % 256);
     put("    Source_Text => (\"probe_%u.c\", \"common.c\");\n  end Probe_%u;\n\n", n, n);
     put("  thread implementation Probe_%u.Impl\n  properties\n    Period => 40 ms;\n", n);
     put("    Compute_Execution_Time => %u us .. %u us;  -- as measured\n", 100 + n % 100, 300 + n % 100);
@@ -375,6 +375,8 @@ static void write_word(void) { write_filled("system x ", "x", " end x;\n"); }
 
 static void write_digits(void) { write_filled("thread x properties Period=>9", "9", ".0 sec;end x;\n"); }
 
+static void write_priority(void) { write_filled("thread x properties Priority=>0", "0", "255;end x;\n"); }
+
 static void write_path(void) { write_filled("package p properties p", "::p", "=>1;\nend p;\n"); }
 
 typedef struct {
@@ -413,6 +415,7 @@ static const Kind kinds[] = {
     { "signs", "signs that nearly are longer", write_signs },
     { "word", "one word", write_word },
     { "digits", "one time", write_digits },
+    { "priority", "one priority", write_priority },
     { "path", "one property's name", write_path },
 };
 enum { KINDS = sizeof kinds / sizeof *kinds };

@@ -1,5 +1,5 @@
-// Request a of document 02 by AADL.md: from an AADL text to the console's lines, or to the first
-// refusal.
+// Requests a and b of document 02 by AADL.md: from an AADL text to the console's lines, or to the
+// first refusal.
 
 use crate::aadl_declared::{Declared, Fault};
 use crate::aadl_grammar::Reader;
@@ -28,11 +28,11 @@ pub fn planned(table: &Table) -> String {
     }
 }
 
-/// The table as the console reads it.
+/// The table as the console reads it, with six bytes in every line 01.
 fn lines(table: &Table) -> String {
     let mut lines = String::new();
     for task in &table.tasks {
-        lines += &format!("01{:04x}{:04x}\n", task.period, task.deadline);
+        lines += &format!("01{:04x}{:04x}{:02x}\n", task.period, task.deadline, task.priority);
     }
     for queue in &table.queues {
         let mask: u64 = queue.senders.iter().map(|sender| 1 << sender).sum();

@@ -264,9 +264,9 @@ impl Reader {
     /// ";" .
     ///
     /// "while an other that begins with process or system is skipped, a word Period, Deadline,
-    /// Dispatch_Protocol, Dispatch_Offset .. that `=>` or `+=>` follows directly, whatever stands
-    /// before it, and behind which "applies" comes before the next `;` and before the other's
-    /// "end", is 20 at that word, noted."
+    /// Dispatch_Protocol, Dispatch_Offset or Priority .. that `=>` or `+=>` follows directly,
+    /// whatever stands before it, and behind which "applies" comes before the next `;` and before
+    /// the other's "end", is 20 at that word, noted."
     fn other(&mut self) -> Read<()> {
         let reaches_threads = self.next_is_one_of(&["process", "system"]);
         self.step();

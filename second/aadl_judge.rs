@@ -62,7 +62,8 @@ pub fn table(declared: &Declared) -> Table {
         let period = judge.ticks(thread, Property::Period).expect("no Period was refused before");
         // "No Deadline anywhere: equal to Period."
         let deadline = judge.ticks(thread, Property::Deadline).unwrap_or(period);
-        table.tasks.push(Task { period, deadline });
+        let priority = judge.priority(thread);
+        table.tasks.push(Task { period, deadline, priority });
     }
     let mut queues: HashMap<(&str, &str), usize> = HashMap::new();
     for between in between_threads(process) {
@@ -296,6 +297,14 @@ impl<'a> Judge<'a> {
         match self.property(thread, property) {
             Some(Value::Time(ticks)) => *ticks,
             _ => None,
+        }
+    }
+
+    /// "No Priority: 0."
+    fn priority(&self, thread: &'a Thread) -> u64 {
+        match self.property(thread, Property::Priority) {
+            Some(Value::Number(priority)) => *priority,
+            _ => 0,
         }
     }
 }

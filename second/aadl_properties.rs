@@ -10,6 +10,7 @@ pub enum Property {
     Deadline,
     DispatchProtocol,
     DispatchOffset,
+    Priority,
     Timing,
 }
 
@@ -18,6 +19,7 @@ pub enum Value {
     /// Ticks; none for a time with 22, which "is there, for "no Period"".
     Time(Option<u64>),
     Name(String),
+    Number(u64),
     Skipped,
 }
 
@@ -39,6 +41,7 @@ pub enum Stands {
 const MOST_OPEN: usize = 8;
 /// No whole number of ticks above this is kept apart from it: planning refuses them all.
 const MOST_TICKS: u64 = 1_000_000_000_000_000;
+const MOST_PRIORITY: u64 = 255;
 
 impl Reader {
     /// associations = "none" ";" | { association } .
@@ -101,6 +104,7 @@ impl Reader {
         let value = match property {
             Property::Period | Property::Deadline => Value::Time(self.time()?),
             Property::DispatchProtocol | Property::Timing => Value::Name(self.name()?.text),
+            Property::Priority => Value::Number(self.priority()?),
             Property::DispatchOffset => {
                 self.value(0)?;
                 Value::Skipped
@@ -140,6 +144,23 @@ impl Reader {
             self.note(22, number_place);
         }
         Ok(ticks)
+    }
+
+    /// "NUMBER without a point". "A Priority over 255 is 20 at its NUMBER, noted."
+    fn priority(&mut self) -> Read<u64> {
+        let number = self.next().text().replace('_', "");
+        if self.next().sort != Sort::Number || number.contains('.') {
+            return self.fits_no_rule();
+        }
+        let value = number.bytes().fold(0, |value, digit| {
+            let more = value * 10 + u64::from(digit - b'0');
+            more.min(MOST_PRIORITY + 1)
+        });
+        if value > MOST_PRIORITY {
+            self.note(20, self.next().place);
+        }
+        self.step();
+        Ok(value)
     }
 
     /// value = part { part } . `open` is how many ( and [ of the association's value are open.
@@ -215,8 +236,7 @@ impl Property {
     }
 }
 
-/// The columns "property" and "also as" of section 4. Priority, which is read from request b on,
-/// is skipped as any other.
+/// The columns "property" and "also as" of section 4.
 pub fn property_of(names: &[&str]) -> Option<Property> {
     match names {
         ["period"] | ["timing_properties", "period"] => Some(Property::Period),
@@ -225,6 +245,7 @@ pub fn property_of(names: &[&str]) -> Option<Property> {
             Some(Property::DispatchProtocol)
         }
         ["dispatch_offset"] | ["timing_properties", "dispatch_offset"] => Some(Property::DispatchOffset),
+        ["priority"] | ["thread_properties", "priority"] => Some(Property::Priority),
         ["timing"] | ["communication_properties", "timing"] => Some(Property::Timing),
         _ => None,
     }

@@ -2,10 +2,14 @@
 // before the token where the refusal is due and is no part of the text; `\n`, where it stands, is.
 
 use crate::aadl::{answer, refused, MOST_BYTES};
+use crate::aadl_texts::{READING_FAULTS, TURN};
 use crate::aadl_tokens::{tokens, Sort, RESERVED};
 use crate::check::shown;
+use crate::texts_faults::reading_faults;
+use crate::TEXTS;
 
-const TABLE_A: &str = "0100050005\n0100070007\n01000a000a\n02020003\n03\n";
+/// With the priorities of Listing 1.
+const TABLE_A: &str = "010005000503\n010007000702\n01000a000a01\n02020003\n03\n";
 
 /// Listing 1 of source 000 without its line numbers.
 const LISTING_1: &str = "\
@@ -55,7 +59,7 @@ connections
 c: port a.o -> b.i;
 end p.i;
 ";
-const SMALL_TABLE: &str = "0100040004\n0100060005\n02010001\n03\n";
+const SMALL_TABLE: &str = "010004000400\n010006000500\n02010001\n03\n";
 
 fn taken(text: &str, lines: &str) {
     assert_eq!(answer(text.as_bytes()), lines, "{}", shown(text.as_bytes()));
@@ -213,7 +217,17 @@ fn properties_that_reach_a_thread_from_outside() {
     taken(&with("process x Period => 5 ms; applies to x; end x;"), SMALL_TABLE);
     taken(&with("process x Period => 5 ms end x; data applies end x;"), SMALL_TABLE);
     taken(&with("process x applies Period => 5 ms; end x;"), SMALL_TABLE);
-    taken(&with("process x Timing => Delayed applies to x; Priority => 3 applies to x; end x;"), SMALL_TABLE);
+    taken(
+        &with("process x Timing => Delayed applies to x; Priorities => 3 applies to x; end x;"),
+        SMALL_TABLE,
+    );
+    refused_at_mark(20, &with("process x ^Priority => 3 applies to x; end x;"));
+    refused_at_mark(20, &with("system x Thread_Properties::^Priority +=> high, 5.5 applies to x; end x;"));
+    refused_at_mark(20, &with("system x y::^Priority => 300 applies to x; end x;"));
+    taken(&with("process x Priority => 3; applies to x; end x;"), SMALL_TABLE);
+    taken(&with("process x Priority => 256; Thread_Properties::Priority => 5.5 end x;"), SMALL_TABLE);
+    taken(&with("process x Priority = > 3 applies to x; end x;"), SMALL_TABLE);
+    taken(&with("device x Priority => 3 applies to x; end x;"), SMALL_TABLE);
     taken(&with("device x Period => 5 ms applies to x; end x;"), SMALL_TABLE);
     taken(&with("thread group x Period => 5 ms applies to x; end x;"), SMALL_TABLE);
     // A blank or a comment between the tokens changes nothing.
@@ -235,9 +249,17 @@ fn properties_of_the_process() {
     small_refused(20, "connections", "properties ^Dispatch_Protocol");
     small_refused(20, "connections", "properties Period::^; connections");
     small_refused(20, "connections", "properties Period::x => ^; connections");
+    small_refused(20, "connections", "properties ^Priority => 3; connections");
+    small_refused(
+        20,
+        "connections",
+        "properties ^Thread_Properties::Priority +=> x, (y) applies to a; connections",
+    );
+    small_refused(20, "connections", "properties ^Priority => 256; connections");
+    small_refused(20, "connections", "properties ^Priority");
     small_taken(
         "connections",
-        "properties Timing => 5; Priority => x; Timing_Properties::Priority => 1; connections",
+        "properties Timing => 5; Priority::x => x; Timing_Properties::Priority => 5.5; connections",
     );
     small_taken("connections", "properties none; connections");
 }
@@ -248,8 +270,8 @@ fn times() {
     small_taken("6 ms", "0.006 SEC");
     small_taken("6 ms", "0_6_.0_0_ Ms");
     small_taken("6 ms", "0.0060000000000000000000000000000000000000000 sec");
-    taken(&small("6 ms", "0.5 sec"), "0100040004\n0101f40005\n02010001\n03\n");
-    taken(&small("4 ms", "60 sec").replace("6 ms", "60.0 sec"), "01ea60ea60\n01ea600005\n02010001\n03\n");
+    taken(&small("6 ms", "0.5 sec"), "010004000400\n0101f4000500\n02010001\n03\n");
+    taken(&small("4 ms", "60 sec").replace("6 ms", "60.0 sec"), "01ea60ea6000\n01ea60000500\n02010001\n03\n");
     small_refused(22, "6 ms", "^6");
     small_refused(22, "6 ms", "^6.5 ms");
     small_refused(22, "6 ms", "^0.0005 sec");
@@ -310,7 +332,10 @@ fn where_properties_are_read() {
     // In the type, in the implementation, in a type that is extended.
     small_taken("4 ms;};", "4 ms; Deadline => 4 ms;};");
     small_taken("end s;", "properties Deadline => 4 ms; end s;");
-    taken(&small("end s;", "properties Deadline => 3 ms; end s;"), "0100040003\n0100060005\n02010001\n03\n");
+    taken(
+        &small("end s;", "properties Deadline => 3 ms; end s;"),
+        "010004000300\n010006000500\n02010001\n03\n",
+    );
     taken(
         &(small("thread s {Period => 4 ms;}", "thread s.j")
             + "thread implementation s.j properties Period => 4 ms; end s.j;"),
@@ -319,14 +344,14 @@ fn where_properties_are_read() {
     taken(
         &(small("thread s features", "thread s extends x::y features")
             + "thread y properties Period => 9 ms; Deadline => 2 ms; end y;"),
-        "0100040002\n0100060005\n02010001\n03\n",
+        "010004000200\n010006000500\n02010001\n03\n",
     );
     // The block counts before the implementation, this before the type.
     taken(
         &(small("a: thread s {Period => 4 ms;}", "a: thread s.j")
             .replace("end s;", "properties Period => 9 ms; Deadline => 3 ms; end s;")
             + "thread implementation S.J properties Period => 4 ms; end s.j;"),
-        "0100040003\n0100060005\n02010001\n03\n",
+        "010004000300\n010006000500\n02010001\n03\n",
     );
     // Elsewhere they are skipped by `value`.
     small_taken("i: in data port;", "i: in data port {Period => 5 us, x;};");
@@ -334,7 +359,14 @@ fn where_properties_are_read() {
     small_taken("end s;", "properties Timing => Immediate applies to o; end s;");
     small_taken("connections", "d: data {Period => 5 us;}; connections");
     small_taken("4 ms;}", "4 ms; x::Period => 5 us; Timing_Properties::Dispatch_Protocol => 5;}");
-    small_taken("4 ms;}", "4 ms; Priority => high;}");
+    small_taken(
+        "4 ms;}",
+        "4 ms; x::Priority => high; Timing_Properties::Priority => 256; Priorities => 5.0;}",
+    );
+    small_taken("i: in data port;", "i: in data port {Priority => high;};");
+    small_taken("b.i;", "b.i {Priority => 256, 5.0;};");
+    small_taken("connections", "d: data {Priority => 256;}; connections");
+    taken(&format!("package p properties Priority => high; end p; {SMALL}"), SMALL_TABLE);
     small_taken("end s;", "subcomponents d: data {Period => 5 us;}; end s;");
 }
 
@@ -354,6 +386,139 @@ fn dispatch_protocol_and_offset() {
     small_refused(20, "4 ms;}", "4 ms; Dispatch_Offset => 0 ms^, 1 ms;}");
     small_refused(20, "4 ms;}", "4 ms; Dispatch_Protocol => Periodic ^in modes (m);}");
     small_refused(20, "a: thread s {Period => 4 ms;}", "^a: thread s");
+}
+
+/// SMALL's table with the priorities of its two tasks.
+fn with_priorities(of_a: u8, of_b: u8) -> String {
+    format!("0100040004{of_a:02x}\n0100060005{of_b:02x}\n02010001\n03\n")
+}
+
+#[test]
+fn priorities() {
+    let priority_of_a = |number: &str, priority: u8| {
+        let block = format!("4 ms; Priority => {number};}}");
+        taken(&small("4 ms;}", &block), &with_priorities(priority, 0));
+    };
+    priority_of_a("0", 0);
+    priority_of_a("1", 1);
+    priority_of_a("127", 127);
+    priority_of_a("128", 128);
+    priority_of_a("255", 255);
+    priority_of_a("2_5_5_", 255);
+    priority_of_a("0_0__7", 7);
+    priority_of_a(&format!("{}255", "0".repeat(300)), 255);
+    // No Priority: 0, in one line as in the other.
+    taken(SMALL, &with_priorities(0, 0));
+    // Its name, and letter case.
+    taken(&small("4 ms;}", "4 ms; PRIORITY=>3;}"), &with_priorities(3, 0));
+    taken(
+        &small("Period => 4 ms;}", "Thread_Properties::Priority => 3; Period => 4 ms;}"),
+        &with_priorities(3, 0),
+    );
+    taken(&small("5 ms;}", "5 ms; thread_properties :: priority => 200;}"), &with_priorities(0, 200));
+}
+
+#[test]
+fn where_a_priority_is_read() {
+    let implementation = "thread implementation s.j properties Priority => 7; end s.j;";
+    let in_type = |priority: &str| format!("properties Priority => {priority}; end s;");
+    // From the type, for both; the block counts before it.
+    taken(&small("end s;", &in_type("9")), &with_priorities(9, 9));
+    taken(&small("end s;", &in_type("9")).replace("4 ms;}", "4 ms; Priority => 0;}"), &with_priorities(0, 9));
+    // From the implementation, before the type.
+    taken(&(small("a: thread s", "a: thread s.j") + implementation), &with_priorities(7, 0));
+    taken(
+        &(small("a: thread s", "a: thread s.j").replace("end s;", &in_type("9")) + implementation),
+        &with_priorities(7, 9),
+    );
+    // From the block, before the implementation.
+    taken(
+        &(small("a: thread s {", "a: thread s.j {Priority => 1;") + implementation),
+        &with_priorities(1, 0),
+    );
+    // From a type that is extended, before the types that this one extends.
+    let extended = small("thread s features", "thread s extends x::y features");
+    let y = "thread y extends z properties Priority => 5; end y;";
+    let z = "thread z properties Priority => 6; end z;";
+    taken(&(extended.clone() + y + z), &with_priorities(5, 5));
+    taken(&(extended.clone() + "thread y extends z end y;" + z), &with_priorities(6, 6));
+    taken(&(extended + z), &with_priorities(0, 0));
+    // The first section that has it.
+    taken(
+        &small("end s;", "properties x => 1; properties Priority => 2; properties Priority => 3; end s;"),
+        &with_priorities(2, 2),
+    );
+    let timed = small(
+        "b: thread s {Period => 6 ms; Deadline => 5 ms;}",
+        "b: thread w1 {Period => 6 ms; Deadline => 5 ms;}",
+    );
+    let priority = "extends outside properties Priority => 4;";
+    taken(&(timed.clone() + &way(8, priority)), &with_priorities(0, 4));
+    taken(&(timed + &way(9, priority)), &with_priorities(0, 0));
+}
+
+#[test]
+fn priorities_that_are_refused() {
+    let in_block = |number: u8, marked: &str| {
+        small_refused(number, "4 ms;}", &format!("4 ms; {marked}"));
+    };
+    // Over 255: at its NUMBER, and the reading goes on.
+    in_block(20, "Priority => ^256;}");
+    in_block(20, "Thread_Properties::Priority => ^2_56_;}");
+    in_block(20, &format!("Priority => ^1{};}}", "0".repeat(30)));
+    in_block(20, "Priority => ^18446744073709551616;}");
+    in_block(20, "Priority => ^256");
+    in_block(20, "Priority => ^256 ms;}");
+    in_block(20, "Priority => ^256;} x");
+    refused_at_mark(22, &small("4 ms", "4 ^us").replace("5 ms;}", "5 ms; Priority => 256;}"));
+    refused_at_mark(20, &small("4 ms;}", "4 ms; Priority => ^256;}").replace("6 ms", "6 us"));
+    // Judged 20 at the thread's NAME before it.
+    small_refused(20, "a: thread s {Period => 4 ms;}", "^a: thread s {Priority => 256;}");
+    // Not the form: it ends the reading.
+    in_block(20, "Priority => ^5.0;}");
+    in_block(20, "Priority => ^0.0;}");
+    in_block(20, "Priority => ^256.0;}");
+    in_block(20, "Priority => 5^.;}");
+    in_block(20, "Priority => ^-5;}");
+    in_block(20, "Priority => ^+5;}");
+    in_block(20, "Priority => ^high;}");
+    in_block(20, "Priority => ^true;}");
+    in_block(20, "Priority => ^\"5\";}");
+    in_block(20, "Priority => ^(5);}");
+    in_block(20, "Priority => ^(((((((((5)))))))));}");
+    in_block(20, "Priority => ^;}");
+    in_block(20, "Priority ^+=> 5;}");
+    in_block(20, "Priority => 5 ^ms;}");
+    in_block(20, "Priority => 5^, 6;}");
+    in_block(20, "Priority => 5 ^.. 6;}");
+    in_block(20, "Priority => 16^#ff#;}");
+    in_block(20, "Priority => 1^e2;}");
+    in_block(20, "Priority => 5 ^in modes (m);}");
+    in_block(20, "Priority => 5 ^applies to x;}");
+    in_block(20, "Priority => 5^}");
+    // What ends the reading hides the judgement.
+    refused_at_mark(
+        20,
+        &(small("a: thread s {Period => 4 ms;}", "a: thread s")
+            + "thread u properties Priority => ^5.0; end u;"),
+    );
+    // Types and implementations that no thread has are read, too.
+    refused_at_mark(20, &(SMALL.to_string() + "thread u properties Priority => ^256; end u;"));
+    refused_at_mark(
+        20,
+        &(SMALL.to_string() + "thread implementation u.i properties Priority => ^high; end u.i;"),
+    );
+    // A second one in the same block or section, at its first NAME; it does not count.
+    in_block(20, "Priority => 5; ^Priority => 5;}");
+    in_block(20, "Priority => 5; ^Thread_Properties::Priority => 6;}");
+    in_block(20, "Priority => 5; ^Priority => 256;}");
+    in_block(20, "Priority => 5; ^Priority => high;}");
+    in_block(20, "Priority => 5; ^Priority");
+    in_block(20, "Priority => ^256; Priority => 5;}");
+    small_refused(20, "end s;", "properties Priority => 5; x => 1; ^Priority => 5; end s;");
+    // Noted where the text is too long, as all that is noted.
+    let long = small("4 ms;}", "4 ms; Priority => 256;}") + &" ".repeat(MOST_BYTES);
+    taken(&long, &refused(20, long.find("256").unwrap()));
 }
 
 #[test]
@@ -573,7 +738,7 @@ fn connections_alike() {
     // Another sender or another receiving port is another connection.
     taken(
         &small("c: port a.o -> b.i;", "port a.o -> b.i; port b.o -> b.i; port a.o -> b.x; port a.o -> a.i;"),
-        "0100040004\n0100060005\n02010003\n02010001\n02000001\n03\n",
+        "010004000400\n010006000500\n02010003\n02010001\n02000001\n03\n",
     );
 }
 
@@ -612,4 +777,11 @@ fn at_most_262_144_bytes() {
     // The first bytes are read as if they were all: here the annex is not closed.
     let annex = filled(&(SMALL.to_string() + "annex x {**"), MOST_BYTES) + "**};";
     taken(&annex, &refused(20, SMALL.len() + 8));
+}
+
+/// Each pattern of a fault comes at least once in the texts that are compared where no other number
+/// is asked for.
+#[test]
+fn every_pattern_is_compared() {
+    assert!(reading_faults() <= TEXTS / TURN * READING_FAULTS);
 }

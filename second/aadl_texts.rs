@@ -22,17 +22,22 @@ pub struct Text {
     pub known: Option<String>,
 }
 
-/// The kinds of texts take turns by seed, so that every kind comes in every stretch of seeds.
+/// The kinds of texts take turns by seed, so that every kind comes in every stretch of so many
+/// seeds.
+pub const TURN: u64 = 33;
+/// Texts of a turn that have one fault of the reading.
+pub const READING_FAULTS: u64 = 6;
+
 pub fn text(seed: u64) -> Text {
     let mut random = Random::from_seed(seed);
     let random = &mut random;
-    let turn = seed / 33;
-    match seed % 33 {
-        0..=10 => of_model(&sound(&good_table(random), random), random),
-        11..=12 => of_model(&sound(&bad_table(2 * turn + seed % 2, random), random), random),
-        13..=17 => of_model(&with_reading_fault(5 * turn + seed % 33 - 13, random), random),
+    let (turn, place) = (seed / TURN, seed % TURN);
+    match place {
+        0..=9 => of_model(&sound(&good_table(random), random), random),
+        10..=11 => of_model(&sound(&bad_table(2 * turn + place - 10, random), random), random),
+        12..=17 => of_model(&with_reading_fault(READING_FAULTS * turn + place - 12, random), random),
         18 => of_model(&with_reserved_word_or_depth(turn, random), random),
-        19..=21 => of_model(&with_judged_fault(3 * turn + seed % 33 - 19, random), random),
+        19..=21 => of_model(&with_judged_fault(3 * turn + place - 19, random), random),
         22 => of_model(&with_faults_of_both_kinds(random), random),
         23..=25 => {
             let pieces = tiny(random);
@@ -92,7 +97,7 @@ fn good_table(random: &mut Random) -> Table {
 fn bad_table(turn: u64, random: &mut Random) -> Table {
     match turn % 12 {
         0 => Table::default(),
-        1 => Table { tasks: vec![Task { period: 5, deadline: 5 }], queues: Vec::new() },
+        1 => Table { tasks: vec![Task { period: 5, deadline: 5, priority: 1 }], queues: Vec::new() },
         shape => expressible(refused_table(shape % REFUSED_SHAPES, random).to_table()),
     }
 }

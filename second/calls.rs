@@ -3,13 +3,16 @@
 //
 // Input, one line each; empty lines and lines from # on are left out. No two commands, and no
 // two fields of a command, have the same first letter: the program under test reads no more.
-//   tasks P/D P/D ..     begins a new table with these tasks; no queue yet
+//   tasks P/D P/D ..     begins a new table with these tasks, all of priority 0; no queue yet
+//   urgency V V ..       the priorities of the table's tasks, 0 for those left out (`plan` has
+//                        the letter p)
 //   queue R s s s        adds a queue: the receiver's row, then the senders' rows
 //   plan                 prints `slots SIZE PLACE` for each queue, or `refused NO ROW`; the plan
 //                        made becomes the current plan, all zeros where refused
 //   alter FIELD V        alters the current plan: tasks, queues
-//   alter FIELD INDEX V  period, deadline (16 each), receiver, length, offset (8 each: size and
-//                        place), sends (128, queue * 16 + task, V is 0 or 1)
+//   alter FIELD INDEX V  period, deadline, urgency (16 each: the last is the priority), receiver,
+//                        length, offset (8 each: size and place), sends (128, queue * 16 + task,
+//                        V is 0 or 1)
 //   force tick V         alters the current state: its tick
 //   force FIELD INDEX V  sent (128, queue * 16 + task: the job after the last one sent, 0 for
 //                        none), reading (8: the next number to read, 0 fresh)
@@ -36,6 +39,7 @@ use crate::lookups;
 use crate::lookups::{planned, read_number, read_queue, read_tasks};
 use crate::model::{plan, Plan, Table};
 use crate::model::{LAST_TICK, MOST_PERIOD, MOST_QUEUES, MOST_SLOTS, MOST_TASKS, PAYLOAD};
+use std::cmp::Reverse;
 
 const SLOT: usize = 32;
 const MOST_MEMORY: u64 = 40_000;
@@ -46,6 +50,7 @@ struct PlanValue {
     queues: u64,
     period: [u64; MOST_TASKS],
     deadline: [u64; MOST_TASKS],
+    priority: [u64; MOST_TASKS],
     receiver: [u64; MOST_QUEUES],
     /// By queue * 16 + task.
     sends: [bool; MOST_QUEUES * MOST_TASKS],
@@ -106,6 +111,12 @@ impl Calls {
         match words {
             [] => {}
             ["tasks", tasks @ ..] => self.table = Table { tasks: read_tasks(tasks)?, queues: Vec::new() },
+            ["urgency", values @ ..] => {
+                let priorities = read_numbers(values)?;
+                for (row, task) in self.table.tasks.iter_mut().enumerate() {
+                    task.priority = priorities.get(row).copied().unwrap_or(0);
+                }
+            }
             ["queue", rows @ ..] => self.table.queues.push(read_queue(rows)?),
             ["plan"] => {
                 let made = plan(&self.table);
@@ -354,6 +365,7 @@ impl PlanValue {
             queues: 0,
             period: [0; MOST_TASKS],
             deadline: [0; MOST_TASKS],
+            priority: [0; MOST_TASKS],
             receiver: [0; MOST_QUEUES],
             sends: [false; MOST_QUEUES * MOST_TASKS],
             size: [0; MOST_QUEUES],
@@ -368,6 +380,7 @@ impl PlanValue {
         for (row, task) in plan.table.tasks.iter().enumerate() {
             value.period[row] = task.period;
             value.deadline[row] = task.deadline;
+            value.priority[row] = task.priority;
         }
         for (row, queue) in plan.table.queues.iter().enumerate() {
             value.receiver[row] = queue.receiver as u64;
@@ -386,6 +399,7 @@ impl PlanValue {
             ("queues", &[value]) => self.queues = value,
             ("period", &[row @ 0..=15, value]) => self.period[row as usize] = value,
             ("deadline", &[row @ 0..=15, value]) => self.deadline[row as usize] = value,
+            ("urgency", &[row @ 0..=15, value]) => self.priority[row as usize] = value,
             ("receiver", &[queue @ 0..=7, value]) => self.receiver[queue as usize] = value,
             ("sends", &[place @ 0..=127, value @ 0..=1]) => self.sends[place as usize] = value == 1,
             ("length", &[queue @ 0..=7, value]) => self.size[queue as usize] = value,
@@ -396,7 +410,8 @@ impl PlanValue {
     }
 
     /// Rule 7, as far as its line goes: 1 to 3, sizes, places and total of the counted queues.
-    /// It asks for neither 4 nor 5 nor fit, nor for zeros beyond the counts.
+    /// It asks for neither 4 nor 5 nor fit, nor for zeros beyond the counts, and nothing of
+    /// priorities.
     fn test(&self) -> Result<(), u8> {
         if self.tasks < 1 || self.tasks > MOST_TASKS as u64 {
             return Err(7);
@@ -456,6 +471,18 @@ impl PlanValue {
 
     fn senders(&self, queue: usize) -> Vec<usize> {
         (0..MOST_TASKS).filter(|&row| self.sends[flat(queue as u64, row as u64)]).collect()
+    }
+
+    /// The senders as their messages go at one deadline: in each turn the first row of those
+    /// with the highest priority that is left.
+    fn senders_in_turn(&self, queue: usize) -> Vec<usize> {
+        let mut left = self.senders(queue);
+        let mut in_turn = Vec::new();
+        while let Some(highest) = left.iter().map(|&row| self.priority[row]).max() {
+            let place = left.iter().position(|&row| self.priority[row] == highest);
+            in_turn.push(left.remove(place.expect("one of them has it")));
+        }
+        in_turn
     }
 
     /// Jobs go up to 2^64 - 1, so this needs more than 64 bits.
@@ -520,7 +547,7 @@ impl PlanValue {
                 deadline += self.period[row];
             }
         }
-        list.sort();
+        list.sort_by_key(|&(deadline, row, _)| (deadline, Reverse(self.priority[row]), row));
         list
     }
 
@@ -548,10 +575,10 @@ impl PlanValue {
         counted
     }
 
-    /// The senders with a deadline exactly at this tick, in row order, each with its job.
+    /// The senders with a deadline exactly at this tick, in turn, each with its job.
     fn at(&self, queue: usize, tick: u64) -> Vec<(usize, u64)> {
         let mut list = Vec::new();
-        for row in self.senders(queue) {
+        for row in self.senders_in_turn(queue) {
             let before = self.jobs_until(row, tick - 1);
             if self.jobs_until(row, tick) > before {
                 list.push((row, before));

@@ -1,4 +1,5 @@
-// The console of document 01: one line in, at most one answer out.
+// The console of document 01, with line 01 as request b has it: one line in, at most one answer
+// out.
 //
 // Memory is a list of slots; the state is a tick, the last job that sent for each queue and
 // task, and the next number to read for each queue.
@@ -40,10 +41,12 @@ impl Console {
             return Some(NO_FRAME.to_string());
         };
         let answer = match (frame[0], frame.len(), self.running.is_some()) {
-            (0x01, 5, false) if self.table.tasks.len() < MOST_TASKS => {
+            (0x01, 5 | 6, false) if self.table.tasks.len() < MOST_TASKS => {
                 let period = number_of(&frame[1..3]);
                 let deadline = number_of(&frame[3..5]);
-                self.table.tasks.push(Task { period, deadline });
+                // "A line of five bytes has priority 0".
+                let priority = number_of(&frame[5..]);
+                self.table.tasks.push(Task { period, deadline, priority });
                 return None;
             }
             (0x02, 4, false) if self.table.queues.len() < MOST_QUEUES => {

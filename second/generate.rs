@@ -7,7 +7,7 @@ use crate::lines::{awkward_line, endless_line, payload, table_frame, Line};
 use crate::lines::{queue_line, receive_line, send_line, start_line, task_line};
 use crate::model::{plan, Table, LAST_TICK};
 use crate::random::Random;
-use crate::tables::{crowded, refused_table, table_of_shape, Rows, REFUSED_SHAPES, SHAPES};
+use crate::tables::{crowded, refused_table, table_of_shape, Rows, TaskRow, REFUSED_SHAPES, SHAPES};
 
 pub struct Session {
     pub lines: Vec<Line>,
@@ -73,8 +73,8 @@ fn write_table(rows: &Rows, random: &mut Random, lines: &mut Vec<Line>) {
             lines.push(queue_line(receiver, mask));
             queue += 1;
         } else {
-            let (period, deadline) = rows.tasks[task];
-            lines.push(task_line(period, deadline));
+            let TaskRow { period, deadline, priority } = rows.tasks[task];
+            lines.push(task_line(period, deadline, priority));
             task += 1;
         }
     }

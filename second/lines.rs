@@ -4,8 +4,10 @@ use crate::random::Random;
 
 pub type Line = Vec<u8>;
 
-pub fn task_line(period: u16, deadline: u16) -> Line {
-    format!("01{period:04x}{deadline:04x}").into_bytes()
+/// Five bytes, or six with a priority.
+pub fn task_line(period: u16, deadline: u16, priority: Option<u8>) -> Line {
+    let sixth = priority.map_or(String::new(), |priority| format!("{priority:02x}"));
+    format!("01{period:04x}{deadline:04x}{sixth}").into_bytes()
 }
 
 pub fn queue_line(receiver: u8, mask: u16) -> Line {
@@ -33,7 +35,8 @@ pub fn payload(random: &mut Random, length: u64) -> Vec<u8> {
 pub fn awkward_line(random: &mut Random) -> Line {
     let mut line = some_frame(random);
     let place = random.below(line.len() as u64 + 1) as usize;
-    match random.below(16) {
+    let (shortest, longest) = good_lengths(&line);
+    match random.below(17) {
         0 => line.clear(),
         // Odd digits.
         1 => {
@@ -41,9 +44,9 @@ pub fn awkward_line(random: &mut Random) -> Line {
         }
         2 => line.insert(place, b'0'),
         // A frame with whole bytes too many or too few.
-        3 => line.extend_from_slice(b"00"),
-        4 => line.truncate(line.len() - 2),
-        5 => line.truncate(2 * random.below(line.len() as u64 / 2) as usize),
+        3 => line.resize(longest + 2, b'0'),
+        4 => line.truncate(shortest - 2),
+        5 => line.truncate(2 * random.below(shortest as u64 / 2) as usize),
         // Upper case, in place of a digit or of all letters.
         6 => line = spoiled(line, random.pick(b"ABCDEF"), place),
         7 => {
@@ -70,11 +73,25 @@ pub fn awkward_line(random: &mut Random) -> Line {
             line = send_line(0, 0, 0, &payload(random, 42));
             line.push(b'0');
         }
+        // A line 01 of seven bytes.
+        15 => {
+            line = task_line(5, 5, Some(random.below(3) as u8));
+            line.extend_from_slice(random.pick(&[b"00", b"01", b"ff"]));
+        }
         _ => line = random.pick(&["#", "0", "3", "0x03", "03 ", " 03", "help", "+3"]).as_bytes().to_vec(),
     }
     // A spoiled line must stay one line.
     line.retain(|&byte| byte != b'\n');
     line
+}
+
+/// The digits of the shortest and the longest good frame of this kind; a send may have any whole
+/// bytes of payload.
+fn good_lengths(frame: &[u8]) -> (usize, usize) {
+    if frame.starts_with(b"01") {
+        return (10, 12);
+    }
+    (frame.len(), frame.len())
 }
 
 const BLOCK: usize = 65_536;
@@ -101,7 +118,7 @@ pub fn endless_line(random: &mut Random, start: usize) -> Line {
 /// A good 01, 02 or 03.
 pub fn table_frame(random: &mut Random) -> Line {
     match random.below(3) {
-        0 => task_line(random.between(1, 12) as u16, 1),
+        0 => task_line(random.between(1, 12) as u16, 1, random.pick(&[None, Some(0), Some(1)])),
         1 => queue_line(0, 1),
         _ => start_line(),
     }

@@ -26,7 +26,7 @@ pub fn number(plan: &Plan, queue: u64, task: u64, job: u64) -> Result<String, u8
     let Some(&row) = senders.iter().find(|&&row| row as u64 == task) else {
         return Err(9);
     };
-    let Task { period, deadline } = plan.table.tasks[row];
+    let Task { period, deadline, .. } = plan.table.tasks[row];
     // Jobs go up to 2^64 - 1, so the product needs more than 64 bits.
     if job as u128 * period as u128 + deadline as u128 > LAST_TICK as u128 {
         return Err(11);
@@ -63,7 +63,7 @@ pub fn read_tasks(words: &[&str]) -> Result<Vec<Task>, String> {
         .iter()
         .map(|word| {
             let (period, deadline) = word.split_once('/').ok_or(format!("no task: {word}"))?;
-            Ok(Task { period: read_number(period)?, deadline: read_number(deadline)? })
+            Ok(Task { period: read_number(period)?, deadline: read_number(deadline)?, priority: 0 })
         })
         .collect()
 }

@@ -1,5 +1,6 @@
-// An independent second program for document 01 and for request a of document 02: the console and
-// the reading of AADL texts by brute force, and checkers that compare other programs with them.
+// An independent second program for document 01 and for requests a and b of document 02: the
+// console and the reading of AADL texts by brute force, and checkers that compare other programs
+// with them.
 //
 //   second answer                               is the console: standard input to output
 //   second check PROGRAM [SESSIONS] [FIRST_SEED] compares PROGRAM on generated sessions
@@ -32,6 +33,8 @@ mod generate;
 mod lines;
 mod lookups;
 mod model;
+#[cfg(test)]
+mod model_tests;
 mod random;
 mod tables;
 mod texts_faults;

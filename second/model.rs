@@ -1,7 +1,8 @@
-// The model of document 01, by listing: tables, planning, numbers, windows.
+// The model of document 01 with the order of request b, by listing: tables, planning, numbers,
+// windows.
 //
-// All sender jobs of one hyperperiod are listed, sorted by deadline and row, and counted.
-// Nothing here uses the equations of the source document.
+// All sender jobs of one hyperperiod are listed, sorted by deadline, priority and row, and
+// counted. Nothing here uses the equations of the source document.
 //
 // The one shortcut is the hyperperiod shift. A job k with k * P < H has its deadline in
 // 1 ..= H, because 1 <= D <= P and P divides H. So the jobs of the next lap are the jobs of
@@ -9,6 +10,8 @@
 // its releases and the ticks of outdating move by H as well. Ticks go up to 10^12 and
 // cannot be listed one by one; `plan_queue` lists three laps outright and stops the program
 // if the second and the third are not the first one shifted.
+
+use std::cmp::Reverse;
 
 pub const MOST_TASKS: usize = 16;
 pub const MOST_QUEUES: usize = 8;
@@ -23,6 +26,7 @@ pub const PAYLOAD: usize = 24;
 pub struct Task {
     pub period: u64,
     pub deadline: u64,
+    pub priority: u64,
 }
 
 /// Senders are task rows in rising order.
@@ -132,7 +136,8 @@ fn hyperperiod(table: &Table, queue: &Queue) -> Option<u64> {
     None
 }
 
-/// Every sender job released before `end`, sorted by deadline, then by row.
+/// Every sender job released before `end`, sorted by deadline; of equal deadlines "the higher
+/// goes first, and equal priorities go by row".
 fn listed_until(table: &Table, queue: &Queue, end: u64) -> Vec<Message> {
     let mut list = Vec::new();
     for &row in &queue.senders {
@@ -144,7 +149,7 @@ fn listed_until(table: &Table, queue: &Queue, end: u64) -> Vec<Message> {
             job += 1;
         }
     }
-    list.sort_by_key(|message| (message.deadline, message.row));
+    list.sort_by_key(|message| (message.deadline, Reverse(table.tasks[message.row].priority), message.row));
     list
 }
 

@@ -6,17 +6,49 @@
 use crate::model::{Queue, Table, Task, MOST_QUEUES, MOST_TASKS};
 use crate::random::Random;
 
+#[derive(Clone, Copy)]
+pub struct TaskRow {
+    pub period: u16,
+    pub deadline: u16,
+    /// The sixth byte; none in a line of five.
+    pub priority: Option<u8>,
+}
+
 #[derive(Clone, Default)]
 pub struct Rows {
-    /// Period and deadline.
-    pub tasks: Vec<(u16, u16)>,
+    pub tasks: Vec<TaskRow>,
     /// Receiver and sender mask.
     pub queues: Vec<(u8, u16)>,
 }
 
 impl Rows {
     fn task(&mut self, period: u64, deadline: u64) {
-        self.tasks.push((period as u16, deadline as u16));
+        self.tasks.push(TaskRow { period: period as u16, deadline: deadline as u16, priority: None });
+    }
+
+    fn all_tasks(&mut self, tasks: &[(u64, u64)]) {
+        for &(period, deadline) in tasks {
+            self.task(period, deadline);
+        }
+    }
+
+    /// Priorities for all rows by one of the sets, or for none: small sets, so that equal and
+    /// unequal ones both come often.
+    pub fn draw_priorities(&mut self, random: &mut Random) {
+        const SETS: [&[Option<u8>]; 7] = [
+            &[None],
+            &[None, Some(0)],
+            &[None, Some(1)],
+            &[Some(0), Some(1)],
+            &[None, Some(0), Some(1), Some(2), Some(3)],
+            &[Some(0), Some(127), Some(128), Some(254), Some(255)],
+            &[None, Some(255)],
+        ];
+        let any = random.once_in(8);
+        let set = random.pick(&SETS);
+        for task in &mut self.tasks {
+            task.priority = if any { Some(random.any() as u8) } else { random.pick(set) };
+        }
     }
 
     fn queue(&mut self, receiver: u64, senders: &[u64]) {
@@ -26,7 +58,11 @@ impl Rows {
 
     /// The table that a console has after these rows: those beyond 16 and 8 are not taken.
     pub fn to_table(&self) -> Table {
-        let task = |&(period, deadline): &(u16, u16)| Task { period: period as u64, deadline: deadline as u64 };
+        let task = |row: &TaskRow| Task {
+            period: row.period as u64,
+            deadline: row.deadline as u64,
+            priority: row.priority.unwrap_or(0) as u64,
+        };
         let queue = |&(receiver, mask): &(u8, u16)| Queue {
             receiver: receiver as usize,
             senders: (0..16).filter(|bit| mask & (1 << bit) != 0).collect(),
@@ -38,10 +74,19 @@ impl Rows {
     }
 }
 
-pub const SHAPES: u64 = 14;
+pub const SHAPES: u64 = 17;
 
 /// A table of the given shape; most are accepted by 03.
 pub fn table_of_shape(shape: u64, random: &mut Random) -> Rows {
+    if shape == 13 {
+        return sized_by_priority(random);
+    }
+    let mut rows = plain_table(shape, random);
+    rows.draw_priorities(random);
+    rows
+}
+
+fn plain_table(shape: u64, random: &mut Random) -> Rows {
     match shape {
         0 => mixed(random, 5, 4, &[1, 2, 3, 4, 5, 6, 7, 8, 9, 10, 11, 12], Deadlines::Any),
         1 => mixed(random, 6, 4, &[1, 2, 4, 8, 16, 32], Deadlines::Any),
@@ -56,6 +101,7 @@ pub fn table_of_shape(shape: u64, random: &mut Random) -> Rows {
         10 => most_messages(random, 4_096),
         11 => slots_together(random, 1_024),
         12 => most_hyperperiod(random),
+        14 | 15 => all_alike(random),
         _ => mixed(random, 4, 3, &[97, 100, 101, 128, 250, 1_000], Deadlines::Any),
     }
 }
@@ -115,21 +161,77 @@ fn reckoned_by_hand(random: &mut Random) -> Rows {
     let mut rows = Rows::default();
     match random.below(4) {
         0 => {
-            rows.tasks = vec![(5, 5), (7, 7), (10, 10)];
+            rows.all_tasks(&[(5, 5), (7, 7), (10, 10)]);
             rows.queue(2, &[0, 1]);
         }
         1 => {
-            rows.tasks = vec![(5, 5), (7, 7), (10, 8)];
+            rows.all_tasks(&[(5, 5), (7, 7), (10, 8)]);
             rows.queue(2, &[0, 1]);
         }
         2 => {
-            rows.tasks = vec![(10, 10), (10, 10)];
+            rows.all_tasks(&[(10, 10), (10, 10)]);
             rows.queue(1, &[0]);
         }
         _ => {
-            rows.tasks = vec![(10, 1), (2, 1)];
+            rows.all_tasks(&[(10, 1), (2, 1)]);
             rows.queue(1, &[0]);
         }
+    }
+    rows
+}
+
+/// Tables whose size moves when two priorities change places: a slow sender's message that goes
+/// last of its deadline is furthest ahead of the messages that are outdated at its early
+/// release. As listed, with falling priorities, the slow one goes first. See model_tests.rs for
+/// the sizes.
+pub const SIZED_BY_PRIORITY: [&[(u64, u64)]; 4] = [
+    &[(4, 4), (2, 2), (2, 2)],
+    &[(10, 10), (5, 5), (5, 3)],
+    &[(4, 4), (2, 2), (2, 2), (2, 2), (2, 2)],
+    // All slots that there are, or one more.
+    &[(4, 4), (1, 1), (412, 405)],
+];
+
+fn sized_by_priority(random: &mut Random) -> Rows {
+    let tasks = random.pick(&SIZED_BY_PRIORITY);
+    by_falling_priority(tasks, random.once_in(2))
+}
+
+/// The last row receives from all the others, which have falling priorities; those of the first
+/// and the last sender may be exchanged.
+pub fn by_falling_priority(tasks: &[(u64, u64)], exchanged: bool) -> Rows {
+    let mut rows = Rows::default();
+    rows.all_tasks(tasks);
+    let receiver = tasks.len() - 1;
+    for (row, task) in rows.tasks.iter_mut().enumerate() {
+        task.priority = Some((receiver - row) as u8);
+    }
+    if exchanged {
+        rows.tasks[0].priority = Some(1);
+        rows.tasks[receiver - 1].priority = Some(receiver as u8);
+    }
+    let senders: Vec<u64> = (0..receiver as u64).collect();
+    rows.queue(receiver as u64, &senders);
+    rows
+}
+
+/// One period and one deadline for all but the receiver: nothing but the priorities and the rows
+/// tell the messages apart.
+fn all_alike(random: &mut Random) -> Rows {
+    let mut rows = Rows::default();
+    let period = random.between(1, 12);
+    let deadline = if random.once_in(2) { period } else { random.between(1, period) };
+    for _ in 0..random.between(2, 15) {
+        rows.task(period, deadline);
+    }
+    let receiver_period = period * random.pick(&[1, 1, 2, 3]);
+    let receiver_deadline = random.between(1, receiver_period);
+    rows.task(receiver_period, receiver_deadline);
+    let receiver = rows.tasks.len() as u64 - 1;
+    let all: Vec<u64> = (0..receiver).collect();
+    rows.queue(receiver, &all);
+    for _ in 0..random.below(3) {
+        random_queue(&mut rows, random);
     }
     rows
 }
@@ -207,6 +309,12 @@ pub const REFUSED_SHAPES: u64 = 12;
 
 /// A table that breaks at least one rule.
 pub fn refused_table(shape: u64, random: &mut Random) -> Rows {
+    let mut rows = broken_table(shape, random);
+    rows.draw_priorities(random);
+    rows
+}
+
+fn broken_table(shape: u64, random: &mut Random) -> Rows {
     let mut rows = Rows::default();
     match shape {
         // Rule 1: nothing, only tasks, only queues.
@@ -286,9 +394,11 @@ fn small(random: &mut Random) -> Rows {
 fn break_tasks(rows: &mut Rows, random: &mut Random) {
     for _ in 0..random.between(1, 2) {
         let row = random.below(rows.tasks.len() as u64) as usize;
-        let (period, _) = rows.tasks[row];
+        let period = rows.tasks[row].period;
         let beyond = period.saturating_add(1);
-        rows.tasks[row] = random.pick(&[(0, 0), (0, 1), (period, 0), (period, beyond), (60_001, 1), (65_535, 65_535)]);
+        let wrong = [(0, 0), (0, 1), (period, 0), (period, beyond), (60_001, 1), (65_535, 65_535)];
+        let (period, deadline) = random.pick(&wrong);
+        rows.tasks[row] = TaskRow { period, deadline, ..rows.tasks[row] };
     }
 }
 
@@ -338,5 +448,6 @@ pub fn crowded(random: &mut Random) -> Rows {
     for _ in 0..random.between(0, 2) {
         rows.queue(0, &[0]);
     }
+    rows.draw_priorities(random);
     rows
 }

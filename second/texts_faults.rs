@@ -85,6 +85,7 @@ pub fn put_reserved_word(model: &mut ModelText, word: &str, random: &mut Random)
         (Where::Association, "x => [ @20e W => 5 ; ] ;"),
         (Where::ThreadProperty, "P => @22n 5 @20e W ;"),
         (Where::ThreadProperty, "Dispatch_Protocol => @20e W ;"),
+        (Where::ThreadProperty, "Priority => @20e W ;"),
         (Where::PortProperty, "Timing => @20e W ;"),
     ];
     let (place, pattern) = random.pick(&patterns);
@@ -137,7 +138,7 @@ pub fn put_depth(model: &mut ModelText, fresh: u64, random: &mut Random) {
 
 /// A value with nine brackets open: 23 at the ninth.
 fn too_deep(random: &mut Random) -> Pieces {
-    let name = random.pick(&["x", "Priority", "Source_Text", "a :: b"]);
+    let name = random.pick(&["x", "Priorities", "Source_Text", "a :: b"]);
     let mut all = pieces(&format!("{name} =>"));
     if random.once_in(3) {
         all.extend(nested(8, random));

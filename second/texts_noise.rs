@@ -17,8 +17,8 @@ pub enum Stands {
 const SKIPPED_EVERYWHERE: [&str; 22] = [
     "Source_Text",
     "Compute_Execution_Time",
-    "Priority",
-    "Thread_Properties :: Priority",
+    "Priorities",
+    "Timing_Properties :: Priority",
     "My_Set :: Period",
     "A :: B :: C",
     "Timing_Properties :: Timing",
@@ -38,13 +38,15 @@ const SKIPPED_EVERYWHERE: [&str; 22] = [
     "ends",
     "None_",
 ];
-const AT_THREADS: [&str; 6] = [
+const AT_THREADS: [&str; 8] = [
     "Period",
     "Deadline",
     "Dispatch_Protocol",
     "Dispatch_Offset",
+    "Priority",
     "Timing_Properties :: Deadline",
     "Thread_Properties :: Dispatch_Protocol",
+    "Thread_Properties :: Priority",
 ];
 const AT_PORTS: [&str; 2] = ["Timing", "Communication_Properties :: Timing"];
 
@@ -283,7 +285,7 @@ pub fn connection(name: &str, random: &mut Random) -> Pieces {
 pub fn thread_section(random: &mut Random) -> Pieces {
     const SECTIONS: [&str; 12] = [
         "prototypes p : thread ;",
-        "subcomponents d : data D { Period => 5 us ; } ;",
+        "subcomponents d : data D { Period => 5 us ; Priority => high ; } ;",
         "subcomponents none ;",
         "calls seq : { call1 : subprogram job ; } ;",
         "calls",
@@ -314,7 +316,7 @@ pub fn process_section(random: &mut Random) -> Pieces {
 
 /// A declaration that is skipped. Its name is taken by no thread type.
 pub fn declaration(name: &str, random: &mut Random) -> Pieces {
-    const DECLARATIONS: [&str; 22] = [
+    const DECLARATIONS: [&str; 23] = [
         "data N end N ;",
         "data implementation N . i subcomponents x : data ; end N . i ;",
         "subprogram N features p : in parameter D ; properties Execution_Time => 1 ms .. 3 ms ; end N ;",
@@ -325,8 +327,9 @@ pub fn declaration(name: &str, random: &mut Random) -> Pieces {
         "system N Period , => 5 ms applies to x ; Deadline = > 3 applies ; end N ;",
         "process N features a : in event data port ; end N ;",
         "process N properties Period => 20 ms ; Deadline => 1 end N ;",
-        "process N applies Period => 5 ms ; applies to x ; Priority => 3 applies to t ; end N ;",
-        "device N properties Period => 5 ms applies to x ; end N ;",
+        "process N applies Period => 5 ms ; applies to x ; Priority = > 3 applies to t ; end N ;",
+        "process N properties Thread_Properties :: Priority => 256 ; x applies to t ; Priority => 5.5 end N ;",
+        "device N properties Period => 5 ms applies to x ; Priority => 3 applies to x ; end N ;",
         "processor N { } ) ( [ end N ;",
         "virtual processor N end N ;",
         "virtual bus N Deadline => 5 ms applies to y end N ;",

@@ -12,7 +12,7 @@ pub struct Sized {
     pub answer: Option<String>,
 }
 
-pub const SIZES: u64 = 20;
+pub const SIZES: u64 = 21;
 
 pub fn of_size(kind: u64, random: &mut Random) -> Sized {
     match kind {
@@ -32,6 +32,7 @@ pub fn of_size(kind: u64, random: &mut Random) -> Sized {
         16 => many_types(random),
         17 => many_ports(random),
         18 => nothing_closed(random),
+        19 => priority(random),
         _ => reaching_from_outside(random),
     }
 }
@@ -50,8 +51,17 @@ fn small() -> String {
 }
 
 fn small_answer() -> String {
-    let tasks = vec![Task { period: 4, deadline: 4 }, Task { period: 6, deadline: 5 }];
+    small_answer_with(0)
+}
+
+/// The second thread has this priority.
+fn small_answer_with(priority: u64) -> String {
+    let tasks = vec![task(4, 4), Task { priority, ..task(6, 5) }];
     planned(&Table { tasks, queues: vec![Queue { receiver: 1, senders: vec![0] }] })
+}
+
+fn task(period: u64, deadline: u64) -> Task {
+    Task { period, deadline, priority: 0 }
 }
 
 fn sized(text: String, answer: String) -> Sized {
@@ -62,7 +72,7 @@ fn threads(count: u64, random: &mut Random) -> Sized {
     let list: String =
         (0..count).map(|index| format!("t{index}: thread s {{Period => 10 ms;}};\n")).collect();
     let last = count as usize - 1;
-    let tasks = vec![Task { period: 10, deadline: 10 }; count as usize];
+    let tasks = vec![task(10, 10); count as usize];
     let table = Table { tasks, queues: vec![Queue { receiver: last, senders: vec![0] }] };
     let text = TYPE.to_string() + &process(&list, &format!("port t0.o -> t{last}.i;\n"));
     if random.once_in(4) {
@@ -80,7 +90,7 @@ fn queues(count: u64) -> Sized {
     let receiver = format!("thread r features\n{ports}end r;\n");
     let list = "a: thread s {Period => 4 ms;};\nb: thread r {Period => 8 ms;};\n";
     let connections: String = (0..count).map(|index| format!("port a.o -> b.i{index};\n")).collect();
-    let tasks = vec![Task { period: 4, deadline: 4 }, Task { period: 8, deadline: 8 }];
+    let tasks = vec![task(4, 4), task(8, 8)];
     let queues = vec![Queue { receiver: 1, senders: vec![0] }; count as usize];
     sized(TYPE.to_string() + &receiver + &process(list, &connections), planned(&Table { tasks, queues }))
 }
@@ -146,8 +156,12 @@ fn way(length: u64, last: &str, extends: &str) -> String {
 /// The eighth type is looked at, the ninth is not.
 fn property_on_the_way(random: &mut Random) -> Sized {
     let length = random.pick(&[2, 7, 8, 8, 9, 9, 10, 40]);
-    let property =
-        random.pick(&["Period => 6 ms;", "Dispatch_Protocol => Sporadic;", "Dispatch_Offset => 5;"]);
+    let property = random.pick(&[
+        "Period => 6 ms;",
+        "Dispatch_Protocol => Sporadic;",
+        "Dispatch_Offset => 5;",
+        "Priority => 9;",
+    ]);
     // It leads out of the text, so that the input port may stand there.
     let types = way(length, &format!("properties {property}"), "extends outside");
     let is_found = length <= 8;
@@ -156,7 +170,11 @@ fn property_on_the_way(random: &mut Random) -> Sized {
     let list = format!("a: thread s {{Period => 4 ms;}};\nb: thread w1.none_ {{{block}}};\n");
     let text = TYPE.to_string() + &types + &process(&list, "port a.o -> b.i;\n");
     let place = text.find("b: thread").unwrap_or(0);
-    let answer = if is_found == is_period { small_answer() } else { refused(20, place) };
+    let answer = match is_found == is_period {
+        _ if property.starts_with("Priority") => small_answer_with(if is_found { 9 } else { 0 }),
+        true => small_answer(),
+        false => refused(20, place),
+    };
     sized(text, answer)
 }
 
@@ -301,6 +319,28 @@ fn number(random: &mut Random) -> Sized {
     sized(text, answer)
 }
 
+/// "0 to 255", by a NUMBER that may have any length; "A Priority over 255 is 20 at its NUMBER".
+fn priority(random: &mut Random) -> Sized {
+    let zeros = "0".repeat(random.pick(&[1, 20, 100_000]));
+    let values = [
+        ("0".to_string(), Some(0)),
+        ("255".to_string(), Some(255)),
+        (format!("{zeros}255"), Some(255)),
+        (format!("{zeros}__2_5_4__"), Some(254)),
+        ("256".to_string(), None),
+        (format!("{zeros}256"), None),
+        (format!("1{zeros}00"), None),
+        (format!("9{zeros}_99"), None),
+        (format!("{zeros}.0"), None),
+        (format!("7.{zeros}"), None),
+    ];
+    let (value, priority) = &values[random.below(values.len() as u64) as usize];
+    let text = TYPE.to_string() + &small();
+    let text = text.replace("5 ms;}", &format!("5 ms; Thread_Properties::Priority => {value};}}"));
+    let place = text.find(value.as_str()).unwrap_or(0);
+    sized(text, priority.map_or(refused(20, place), small_answer_with))
+}
+
 /// Thousands of types, the last of them declared twice or not.
 fn many_types(random: &mut Random) -> Sized {
     let list: String =
@@ -335,7 +375,7 @@ fn nothing_closed(random: &mut Random) -> Sized {
 
 /// Thousands of words that "applies" behind them would make 20, with it or without it.
 fn reaching_from_outside(random: &mut Random) -> Sized {
-    let words = random.pick(&["Period => ", "Deadline +=> ", "Dispatch_Offset =>\n"]);
+    let words = random.pick(&["Period => ", "Deadline +=> ", "Dispatch_Offset =>\n", "Priority => "]);
     let many = words.repeat(10_000);
     let behind = random.pick(&["", "applies to x;", "; applies"]);
     let skipped = format!("process x {many} {behind} end x;\n");

@@ -1,5 +1,6 @@
 // Sound texts: from a table to thread types, implementations, a process and much that is passed
-// over, with the times and ports of each thread spread over all the places where they are read.
+// over, with the times, the priority and the ports of each thread spread over all the places where
+// they are read.
 
 use crate::model::{Table, Task};
 use crate::random::Random;
@@ -14,6 +15,7 @@ struct Level {
     period: Option<u64>,
     deadline: Option<u64>,
     protocol: Option<&'static str>,
+    priority: Option<u64>,
 }
 
 /// Threads of one type.
@@ -176,16 +178,17 @@ impl Builder<'_> {
         if members.is_empty() || random.once_in(2) {
             return Level::default();
         }
-        let Task { period, deadline } = self.table.tasks[random.pick(members)];
+        let Task { period, deadline, priority } = self.table.tasks[random.pick(members)];
         Level {
             period: random.once_in(2).then_some(period),
             deadline: random.once_in(3).then_some(deadline),
             protocol: random.pick(&[None, None, None, Some("Periodic"), Some("Periodic"), Some("Sporadic")]),
+            priority: random.once_in(2).then_some(priority),
         }
     }
 
     fn thread(&mut self, name: &str, row: usize, kind: &Kind, random: &mut Random) -> ThreadText {
-        let Task { period, deadline } = self.table.tasks[row];
+        let Task { period, deadline, priority } = self.table.tasks[row];
         let mut implementation = None;
         let mut levels = Vec::new();
         if !kind.implementations.is_empty() && (kind.way.is_empty() || !random.once_in(3)) {
@@ -200,6 +203,7 @@ impl Builder<'_> {
         let found_period = levels.iter().find_map(|level| level.period);
         let found_deadline = levels.iter().find_map(|level| level.deadline);
         let found_protocol = levels.iter().find_map(|level| level.protocol);
+        let found_priority = levels.iter().find_map(|level| level.priority);
         let mut own = Level::default();
         if found_period != Some(period) || random.once_in(4) {
             own.period = Some(period);
@@ -210,6 +214,9 @@ impl Builder<'_> {
         }
         if found_protocol == Some("Sporadic") || random.once_in(6) {
             own.protocol = Some("Periodic");
+        }
+        if found_priority.unwrap_or(0) != priority || random.once_in(4) {
+            own.priority = Some(priority);
         }
         let prefix = random.pick(&["", "", "", "Pack ::", "A :: B ::"]);
         let block = self.level_associations(own, random);
@@ -279,6 +286,7 @@ impl Builder<'_> {
                 period: level.period.and(Some(random.between(1, 99))),
                 deadline: level.deadline.and(Some(random.between(1, 99))),
                 protocol: level.protocol.and(random.pick(&[Some("Periodic"), Some("Sporadic")])),
+                priority: level.priority.and(Some(random.between(0, 255))),
             };
             sections.push(self.level_associations(later, random));
         }
@@ -299,6 +307,10 @@ impl Builder<'_> {
         if let Some(protocol) = level.protocol {
             let name = random.pick(&["Dispatch_Protocol", "Thread_Properties :: Dispatch_Protocol"]);
             list.push(pieces(&format!("{name} => {protocol} ;")));
+        }
+        if let Some(priority) = level.priority {
+            let name = random.pick(&["Priority", "Priority", "Thread_Properties :: Priority"]);
+            list.push(pieces(&format!("{name} => {} ;", whole_number(priority, random))));
         }
         for _ in 0..random.below(3) {
             list.push(noise::association(Stands::AtThread, random));
@@ -353,7 +365,7 @@ impl Builder<'_> {
         let name = self.fresh_name("unused_");
         let properties = random.pick(&[
             "properties Dispatch_Protocol => Sporadic ; Dispatch_Offset => 5 us ;",
-            "properties Deadline => 0 ms ; properties Period => 7 ms ; Priority => high ;",
+            "properties Deadline => 0 ms ; properties Period => 7 ms ; Priority => 255 ;",
             "features p : in data port { Timing => Immediate ; } ; q : out event port ;",
             "features none ; properties none ; features p : out data port X { Period => 3 ; } ;",
         ]);
@@ -386,6 +398,17 @@ pub fn time(ticks: u64, random: &mut Random) -> String {
         5 if ticks % 1_000 == 0 => format!("{} {seconds}", ticks / 1_000),
         6 if ticks % 100 == 0 => format!("{}.{} {seconds}", ticks / 1_000, ticks % 1_000 / 100),
         _ => format!("{ticks} {milliseconds}"),
+    }
+}
+
+/// A NUMBER without a point, in one of its many forms.
+fn whole_number(number: u64, random: &mut Random) -> String {
+    match random.below(6) {
+        0 => format!("{number}_"),
+        1 => format!("0{number}"),
+        2 => format!("0_00__{number}__"),
+        3 => format!("{}{number}", "0".repeat(30)),
+        _ => number.to_string(),
     }
 }
 

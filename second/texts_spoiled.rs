@@ -7,12 +7,12 @@ use crate::texts_pieces::{piece, Piece, Pieces};
 
 /// Everything the grammar knows beside the reserved words, and a little that it does not.
 #[rustfmt::skip]
-const TOKENS: [&str; 52] = [
+const TOKENS: [&str; 54] = [
     "=>", "+=>", "->", "->>", "<->", "::", "..", ":", ";", ",", ".", "(", ")", "[", "]", "{", "}",
     "{**", "**}", "{** **}", "\"", "\"\"", "\"x\"", "--", "-", "+", "*", "=", ">", "0", "5", "0.5",
     "1_0", "5 ms", "ms", "sec", "us", "x", "T1", "Period", "Deadline", "Timing", "Delayed", "Immediate",
     "Periodic", "Dispatch_Offset", "Dispatch_Protocol", "Priority", "Timing_Properties", "none ;",
-    "\u{e9}", "\n",
+    "\u{e9}", "\n", "256", "Thread_Properties",
 ];
 
 pub fn spoiled_pieces(mut list: Pieces, random: &mut Random) -> Pieces {

@@ -88,6 +88,9 @@ fn properties(care: u64, random: &mut Random) -> Pieces {
     if random.once_in(6) {
         all.extend(pieces("Dispatch_Protocol => Periodic ;"));
     }
+    if random.once_in(3) {
+        all.extend(pieces(&format!("Priority => {} ;", random.below(4))));
+    }
     if random.once_in(6 * care) {
         all.extend(pieces(random.pick(&[
             "Dispatch_Offset => 3 ms ;",
@@ -96,6 +99,9 @@ fn properties(care: u64, random: &mut Random) -> Pieces {
             "Deadline => 0.5 ms ;",
             "Period => 5 ;",
             "Period => 1 ms ;",
+            "Priority => 9 ;",
+            "Priority => 256 ;",
+            "Priority => 9.0 ;",
         ])));
     }
     all
@@ -130,6 +136,9 @@ fn thread(name: &str, care: u64, random: &mut Random) -> Pieces {
     }
     if random.once_in(4) {
         all.extend(pieces("Dispatch_Protocol => Periodic ;"));
+    }
+    if random.once_in(3) {
+        all.extend(pieces(&format!("Priority => {} ;", random.below(4))));
     }
     all.extend(pieces("} ;"));
     all

@@ -9,7 +9,7 @@ use Rattle.calls.specs.Types.{Tick, Plan, State, Sent, Received, Frame}
 
 -- 04, 05 and a frame that means nothing leave the table alone
 abbrev pub isCall : Frame → Bool
-isCall (Frame.Task period deadline) = false
+isCall (Frame.Task period deadline priority) = false
 isCall (Frame.Queue receiver mask) = false
 isCall Frame.Go = false
 isCall (Frame.Send q i t) = true
@@ -56,7 +56,7 @@ receiveCall p s m q t = record {
 
 -- any other frame is no call
 abbrev pub callOf : Plan → State → List ℕ → List ℕ → Frame → CallDone
-callOf p s m payload (Frame.Task period deadline) = unmoved s m
+callOf p s m payload (Frame.Task period deadline priority) = unmoved s m
 callOf p s m payload (Frame.Queue receiver mask) = unmoved s m
 callOf p s m payload Frame.Go = unmoved s m
 callOf p s m payload (Frame.Send q i t) = sendCall p s m q i t payload

@@ -64,7 +64,7 @@ receive-left before reading p m q t out sent r e w = let l = rw (e .0) at w in (
 
 pub other-call : (p : Plan) (s : State) (m payload : List ℕ) (f : Frame) → ((q i : ℕ) (t : Tick) → f ≡ Frame.Send q i t → ⊥) →
     ((q : ℕ) (t : Tick) → f ≡ Frame.Receive q t → ⊥) → callOf p s m payload f ≡ unmoved s m
-other-call p s m payload (Frame.Task period deadline) a b = refl
+other-call p s m payload (Frame.Task period deadline priority) a b = refl
 other-call p s m payload (Frame.Queue receiver mask) a b = refl
 other-call p s m payload Frame.Go a b = refl
 other-call p s m payload (Frame.Send q i t) a b = absurd (a q i t refl)

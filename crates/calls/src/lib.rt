@@ -27,7 +27,7 @@ pub fn is_call(frame: Frame) -> bool
     ensures { λ r. ⌜ r ≡ isCall frame ⌝ }
 {
     match frame {
-        Frame::Task(_, _) => false,
+        Frame::Task(_, _, _) => false,
         Frame::Queue(_, _) => false,
         Frame::Go => false,
         Frame::Send(_, _, _) => true,

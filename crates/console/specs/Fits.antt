@@ -79,7 +79,7 @@ short-unmoved : (s : State) (m : List ℕ) → length (unmoved s m .answer) ≤ 
 short-unmoved s m = short-line badBytes few-bad
 
 short-call : (p : Plan) (s : State) (m payload : List ℕ) (f : Frame) → length (callOf p s m payload f .answer) ≤ longestAnswer
-short-call p s m payload (Frame.Task period deadline) = short-unmoved s m
+short-call p s m payload (Frame.Task period deadline priority) = short-unmoved s m
 short-call p s m payload (Frame.Queue receiver mask) = short-unmoved s m
 short-call p s m payload Frame.Go = short-unmoved s m
 short-call p s m payload (Frame.Send q i t) =
@@ -94,7 +94,7 @@ short-lined false p s m payload f = short-unmoved s m
 
 short-table : (d : Desk) (m : List ℕ) (f : Frame) → Short (tableTurn d m f)
 unfolding goTurn
-short-table d m (Frame.Task period deadline) = short-row d m _ _
+short-table d m (Frame.Task period deadline priority) = short-row d m _ _
 short-table d m (Frame.Queue receiver mask) = short-row d m _ _
 short-table d m Frame.Go = short-if (d .running) (bad d m) _ (short-bad d m) (short-plan d (planned d .plan) m (planned d .answer))
 short-table d m (Frame.Send q i t) = short-bad d m

@@ -56,8 +56,8 @@ planned-sound d e = accepted-made (d .tasks) (d .queues) (d .period) (d .deadlin
 
 keeps-table : (d : Desk) (m : List ℕ) (f : Frame) → SoundDesk d → Keeps (tableTurn d m f)
 unfolding withTask withQueue goTurn
-keeps-table d m (Frame.Task period deadline) k =
-    keeps-row d m (leb taskLimit (d .tasks)) (withTask d period deadline) k (record { sound = k .sound })
+keeps-table d m (Frame.Task period deadline priority) k =
+    keeps-row d m (leb taskLimit (d .tasks)) (withTask d period deadline priority) k (record { sound = k .sound })
 keeps-table d m (Frame.Queue receiver mask) k =
     keeps-row d m (leb queueLimit (d .queues)) (withQueue d receiver mask) k (record { sound = k .sound })
 keeps-table d m Frame.Go k = keeps-if (d .running) (bad d m) _ k (keeps-plan d (planned d .plan) m (planned d .answer) (planned-sound d))

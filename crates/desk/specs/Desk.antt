@@ -36,6 +36,7 @@ newDesk = record {
   queues = 0;
   period = replicate taskLimit 0;
   deadline = replicate taskLimit 0;
+  priority = replicate taskLimit 0;
   receiver = replicate queueLimit 0;
   senders = replicate queueLimit 0;
   running = false;
@@ -52,12 +53,13 @@ pub record SoundDesk (d : Desk) : Type 0 where
 unfoldable pub rowTurn : Desk → List ℕ → Bool → Desk → Turn
 rowTurn d m full more = cond (d .running) (bad d m) (cond full (bad d m) (silent more m))
 
-unfoldable pub withTask : Desk → ℕ → ℕ → Desk
-withTask d period deadline = record {
+unfoldable pub withTask : Desk → ℕ → ℕ → ℕ → Desk
+withTask d period deadline priority = record {
   tasks = d .tasks + 1;
   queues = d .queues;
   period = set (d .period) (d .tasks) period;
   deadline = set (d .deadline) (d .tasks) deadline;
+  priority = set (d .priority) (d .tasks) priority;
   receiver = d .receiver;
   senders = d .senders;
   running = d .running;
@@ -65,8 +67,8 @@ withTask d period deadline = record {
   state = d .state;
 }
 
-abbrev pub taskTurn : Desk → List ℕ → ℕ → ℕ → Turn
-taskTurn d m period deadline = rowTurn d m (leb taskLimit (d .tasks)) (withTask d period deadline)
+abbrev pub taskTurn : Desk → List ℕ → ℕ → ℕ → ℕ → Turn
+taskTurn d m period deadline priority = rowTurn d m (leb taskLimit (d .tasks)) (withTask d period deadline priority)
 
 unfoldable pub withQueue : Desk → ℕ → ℕ → Desk
 withQueue d receiver mask = record {
@@ -74,6 +76,7 @@ withQueue d receiver mask = record {
   queues = d .queues + 1;
   period = d .period;
   deadline = d .deadline;
+  priority = d .priority;
   receiver = set (d .receiver) (d .queues) receiver;
   senders = set (d .senders) (d .queues) mask;
   running = d .running;
@@ -109,6 +112,7 @@ withRun d p s = record {
   queues = d .queues;
   period = d .period;
   deadline = d .deadline;
+  priority = d .priority;
   receiver = d .receiver;
   senders = d .senders;
   running = true;
@@ -136,6 +140,7 @@ withState d s = record {
   queues = d .queues;
   period = d .period;
   deadline = d .deadline;
+  priority = d .priority;
   receiver = d .receiver;
   senders = d .senders;
   running = d .running;
@@ -152,7 +157,7 @@ callTurn d m payload f =
 
 -- 01 to 03; a frame that is none of them does not belong to the table
 abbrev pub tableTurn : Desk → List ℕ → Frame → Turn
-tableTurn d m (Frame.Task period deadline) = taskTurn d m period deadline
+tableTurn d m (Frame.Task period deadline priority) = taskTurn d m period deadline priority
 tableTurn d m (Frame.Queue receiver mask) = queueTurn d m receiver mask
 tableTurn d m Frame.Go = goTurn d m
 tableTurn d m (Frame.Send q i t) = bad d m

@@ -20,6 +20,7 @@ pub struct Desk {
     // of each task
     pub period: [u64; Plan::TASKS],
     pub deadline: [u64; Plan::TASKS],
+    pub priority: [u8; Plan::TASKS],
     // of each queue: its receiver's row, and a mask with bit i for task i
     pub receiver: [usize; Plan::QUEUES],
     pub senders: [u64; Plan::QUEUES],
@@ -45,6 +46,7 @@ impl Desk {
             queues: 0,
             period: [0; Plan::TASKS],
             deadline: [0; Plan::TASKS],
+            priority: [0; Plan::TASKS],
             receiver: [0; Plan::QUEUES],
             senders: [0; Plan::QUEUES],
             running: false,
@@ -79,7 +81,7 @@ pub fn set_table(desk: Desk, memory: &mut [u8], frame: Frame, out: &mut [u8]) ->
     ensures { λ r. ⌜ Takes (tableTurn desk (now (memory .entry)) frame) (now (out .entry)) r (now (memory .exit)) (now (out .exit)) ⌝ }
 {
     match frame {
-        Frame::Task(period, deadline) => add_task(desk, out, period, deadline),
+        Frame::Task(period, deadline, priority) => add_task(desk, out, period, deadline, priority),
         Frame::Queue(receiver, mask) => add_queue(desk, out, receiver, mask),
         Frame::Go => go(desk, memory, out),
         Frame::Send(_, _, _) => refuse_line(desk, out),

@@ -25,9 +25,9 @@ fn takes_row(running: bool, rows: usize, most: usize) -> bool
     rows < most
 }
 
-pub fn add_task(mut desk: Desk, out: &mut [u8], period: u64, deadline: u64) -> Stepped
+pub fn add_task(mut desk: Desk, out: &mut [u8], period: u64, deadline: u64, priority: u8) -> Stepped
     requires { ⌜ longestAnswer ≤ length (now out) ⌝ }
-    ensures { λ r. ⌜ ((m : List ℕ) → Takes (taskTurn desk m period deadline) (now (out .entry)) r m (now (out .exit))) ⌝ }
+    ensures { λ r. ⌜ ((m : List ℕ) → Takes (taskTurn desk m period deadline priority) (now (out .entry)) r m (now (out .exit))) ⌝ }
 {
     let row = desk.tasks;
     if !takes_row(desk.running, row, Plan::TASKS) {
@@ -36,6 +36,7 @@ pub fn add_task(mut desk: Desk, out: &mut [u8], period: u64, deadline: u64) -> S
     desk.tasks = row + 1;
     desk.period[row] = period;
     desk.deadline[row] = deadline;
+    desk.priority[row] = priority;
     Stepped { desk, written: 0 }
 }
 
@@ -58,6 +59,7 @@ fn plan_of(desk: Desk) -> Planned
 {
     let period = desk.period;
     let deadline = desk.deadline;
+    let priority = desk.priority;
     let receiver = desk.receiver;
     let senders = desk.senders;
     planning::make_plan(
@@ -65,6 +67,7 @@ fn plan_of(desk: Desk) -> Planned
         desk.queues,
         period,
         deadline,
+        priority,
         receiver,
         square_of(senders),
     )

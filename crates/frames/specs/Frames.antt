@@ -1,5 +1,5 @@
 -- The frames that the console reads, "one frame a line, numbers high byte first". A frame is known by its first byte and its length.
-use Rattle.common.specs.Words.{ℕ, _+_, cond, List, _≡_, ltb, eqb, length, getD, drop}
+use Rattle.common.specs.Words.{ℕ, _+_, Bool, cond, _||_, List, _≡_, ltb, eqb, length, getD, drop}
 use denote.Ref.{RefT, now}
 use Rattle.calendar.specs.Calendar.{tick}
 use Rattle.digits.specs.Numbers.{valueAt}
@@ -8,9 +8,12 @@ use Rattle.frames.specs.declared.frame.Frame.{Frame}
 abbrev pub ofSize : ℕ → List ℕ → Frame → Frame
 ofSize size bytes frame = cond (eqb (length bytes) size) frame Frame.Bad
 
--- "01: period (2 bytes), deadline (2)"
+-- "01: period (2 bytes), deadline (2)", and by request b "a sixth byte, priority"; "A line of five bytes has priority 0"
+abbrev pub taskLength : ℕ → Bool
+taskLength bytes = eqb bytes 5 || eqb bytes 6
+
 abbrev pub taskIn : List ℕ → Frame
-taskIn bytes = ofSize 5 bytes (Frame.Task (valueAt bytes 1 2) (valueAt bytes 3 2))
+taskIn bytes = cond (taskLength (length bytes)) (Frame.Task (valueAt bytes 1 2) (valueAt bytes 3 2) (getD bytes 5 0)) Frame.Bad
 
 -- "02: receiver (1), sender mask (2, bit i for task i)"
 abbrev pub queueIn : List ℕ → Frame

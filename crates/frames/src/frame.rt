@@ -1,12 +1,12 @@
 // The frames that the console reads: a first byte that says which, and numbers of fixed widths behind it.
 use calendar::Tick;
 use digits::numbers::value_at;
-ghost use Rattle.common.specs.Words.{_≡_};
-ghost use Rattle.frames.specs.Frames.{taskIn, queueIn, goIn, sendIn, receiveIn, frameOf, PayloadGives};
+ghost use Rattle.common.specs.Words.{_≡_, getD};
+ghost use Rattle.frames.specs.Frames.{taskLength, taskIn, queueIn, goIn, sendIn, receiveIn, frameOf, PayloadGives};
 
 // The payload of a send is not taken out: `payload_in` shows where it lies.
 pub enum Frame {
-    Task(u64, u64),
+    Task(u64, u64, u8),
     Queue(usize, u64),
     Go,
     Send(usize, usize, Tick),
@@ -16,13 +16,29 @@ pub enum Frame {
 
 const PAYLOAD: usize = 8;
 
+// Five bytes, or six with a priority.
+fn task_length(bytes: usize) -> bool
+    ensures { λ r. ⌜ r ≡ taskLength bytes ⌝ }
+{
+    if bytes == 5 { true } else { bytes == 6 }
+}
+
+// The priority is the sixth byte, 0 where there is none.
+fn priority_in(bytes: &[u8]) -> u8
+    ensures { λ r. ⌜ r ≡ getD (now (bytes .entry)) 5 0 ⌝ }
+{
+    if bytes.len() < 6 { 0 } else { bytes[5] }
+}
+
 fn task_in(bytes: &[u8]) -> Frame
     ensures { λ r. ⌜ r ≡ taskIn (now (bytes .entry)) ⌝ }
 {
-    if bytes.len() != 5 {
+    if !task_length(bytes.len()) {
         return Frame::Bad;
     }
-    Frame::Task(value_at(bytes, 1, 2), value_at(bytes, 3, 2))
+    let period = value_at(bytes, 1, 2);
+    let deadline = value_at(bytes, 3, 2);
+    Frame::Task(period, deadline, priority_in(bytes))
 }
 
 fn queue_in(bytes: &[u8]) -> Frame

@@ -32,6 +32,7 @@ tableA = record {
   queues = 1;
   period = 5 ∷ 7 ∷ 10 ∷ replicate 13 0;
   deadline = 5 ∷ 7 ∷ 10 ∷ replicate 13 0;
+  priority = replicate 16 0;
   receiver = 2 ∷ replicate 7 0;
   sends = true ∷ true ∷ replicate 126 false;
   size = 9 ∷ replicate 7 0;

@@ -19,6 +19,7 @@ resized p q L = record {
   queues = p .queues;
   period = p .period;
   deadline = p .deadline;
+  priority = p .priority;
   receiver = p .receiver;
   sends = p .sends;
   size = table (sizeWith p q L) queueLimit;

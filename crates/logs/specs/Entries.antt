@@ -92,7 +92,7 @@ module _ (e : Entry) (quiet : Quiet (frameIn (e .line)) (e .answer)) where
     where
       go : (f : Frame) → Quiet f (e .answer) → cond (asks p q k f && tells (codeIn (e .answer))) (e .answer ∷ []) [] ≡ []
       go (Frame.Receive r t) c = rw (c, neither (asks p q k (Frame.Receive r t)))
-      go (Frame.Task period deadline) c = refl
+      go (Frame.Task period deadline priority) c = refl
       go (Frame.Queue receiver mask) c = refl
       go Frame.Go c = refl
       go (Frame.Send r i t) c = refl

@@ -93,7 +93,7 @@ module _ {p : Plan} {m : List ℕ} {H : History} {w : feed.Console} {log : Log} 
   idle-quiet : (f : Frame) → callMade payload f ≡ [] → (answer : List ℕ) → Quiet f answer
   idle-quiet (Frame.Send q i t) e answer = absurd (let z : _≡_ {A = ℕ} 0 1 = cc in omega arith)
   idle-quiet (Frame.Receive q t) e answer = absurd (let z : _≡_ {A = ℕ} 0 1 = cc in omega arith)
-  idle-quiet (Frame.Task period deadline) e answer = tt
+  idle-quiet (Frame.Task period deadline priority) e answer = tt
   idle-quiet (Frame.Queue receiver mask) e answer = tt
   idle-quiet Frame.Go e answer = tt
   idle-quiet Frame.Bad e answer = tt

@@ -17,7 +17,7 @@ abbrev pub receiving : Desk → List ℕ → ℕ → Tick → Turn
 receiving d m q t = says (withState d (receiveState (d .state) (d .plan) m q (t .0))) m (receivedBytes m (look (d .state) (d .plan) m q (t .0)))
 
 abbrev pub turnOf : Desk → List ℕ → List ℕ → Frame → Turn
-turnOf d m payload (Frame.Task period deadline) = taskTurn d m period deadline
+turnOf d m payload (Frame.Task period deadline priority) = taskTurn d m period deadline priority
 turnOf d m payload (Frame.Queue receiver mask) = queueTurn d m receiver mask
 turnOf d m payload Frame.Go = goTurn d m
 turnOf d m payload (Frame.Send q i t) = cond (d .running) (sending d m q i t payload) (bad d m)
@@ -40,7 +40,7 @@ either false x = refl
 
 frame-turn : (d : Desk) (m payload : List ℕ) (f : Frame) → frameTurn d m payload f ≡ turnOf d m payload f
 unfolding callTurn withState
-frame-turn d m payload (Frame.Task period deadline) = refl
+frame-turn d m payload (Frame.Task period deadline priority) = refl
 frame-turn d m payload (Frame.Queue receiver mask) = refl
 frame-turn d m payload Frame.Go = refl
 frame-turn d m payload (Frame.Send q i t) = call-turn d m payload (Frame.Send q i t) (d .running)

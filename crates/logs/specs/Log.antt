@@ -56,6 +56,7 @@ pub record SameTable (a b : Desk) : Type 0 where
   pub queues : a .queues ≡ b .queues
   pub period : a .period ≡ b .period
   pub deadline : a .deadline ≡ b .deadline
+  pub priority : a .priority ≡ b .priority
   pub receiver : a .receiver ≡ b .receiver
   pub senders : a .senders ≡ b .senders
 
@@ -65,7 +66,7 @@ pub record SameTable (a b : Desk) : Type 0 where
 abbrev pub callMade : List ℕ → Frame → List Call
 callMade payload (Frame.Send q i t) = send q i (t .0) payload ∷ []
 callMade payload (Frame.Receive q t) = receive q (t .0) ∷ []
-callMade payload (Frame.Task period deadline) = []
+callMade payload (Frame.Task period deadline priority) = []
 callMade payload (Frame.Queue receiver mask) = []
 callMade payload Frame.Go = []
 callMade payload Frame.Bad = []
@@ -96,7 +97,7 @@ StoredIn (e ∷ es) q n payload = Stores q n payload e ⊎ StoredIn es q n paylo
 -- the line is a 05 on queue q at a tick of job k of its receiver
 abbrev pub asks : Plan → ℕ → ℕ → Frame → Bool
 asks p q k (Frame.Receive r t) = eqb r q && eqb (receivingJob (queueAt p q) (t .0)) k
-asks p q k (Frame.Task period deadline) = false
+asks p q k (Frame.Task period deadline priority) = false
 asks p q k (Frame.Queue receiver mask) = false
 asks p q k Frame.Go = false
 asks p q k (Frame.Send r i t) = false

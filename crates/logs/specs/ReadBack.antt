@@ -54,7 +54,7 @@ plan-tells d m (Answer.Refused r) e =
 
 frame-tells : (d : Desk) (m payload : List ℕ) (f : Frame) → Tells (turnOf d m payload f) (frameTold d m payload f)
 unfolding goTurn frameTold
-frame-tells d m payload (Frame.Task period deadline) = row-tells d m (leb taskLimit (d .tasks)) (withTask d period deadline)
+frame-tells d m payload (Frame.Task period deadline priority) = row-tells d m (leb taskLimit (d .tasks)) (withTask d period deadline priority)
 frame-tells d m payload (Frame.Queue receiver mask) = row-tells d m (leb queueLimit (d .queues)) (withQueue d receiver mask)
 frame-tells d m payload Frame.Go = tells-if (d .running) (bad d m) _ badTold _ bad-back (plan-tells d m (planned d .answer) refl)
 frame-tells d m payload (Frame.Send q i t) =

@@ -72,7 +72,7 @@ rowTold d full = cond (d .running) badTold (cond full badTold nothingTold)
 
 -- what a frame is told on a desk and a memory
 unfoldable pub frameTold : Desk → List ℕ → List ℕ → Frame → Said
-frameTold d m payload (Frame.Task period deadline) = rowTold d (leb taskLimit (d .tasks))
+frameTold d m payload (Frame.Task period deadline priority) = rowTold d (leb taskLimit (d .tasks))
 frameTold d m payload (Frame.Queue receiver mask) = rowTold d (leb queueLimit (d .queues))
 frameTold d m payload Frame.Go = cond (d .running) badTold (planTold (planned d .plan) m (planned d .answer))
 frameTold d m payload (Frame.Send q i t) = cond (d .running) (sentSays (sendAnswer (d .state) (d .plan) m q i (t .0) payload)) badTold

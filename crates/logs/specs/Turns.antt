@@ -21,7 +21,7 @@ pub data Acts (d : Desk) (m payload : List ℕ) : Frame → Turn → Type 0 wher
 
 pub running-acts : (d : Desk) (m payload : List ℕ) (f : Frame) → d .running ≡ true → Acts d m payload f (turnOf d m payload f)
 unfolding rowTurn goTurn
-running-acts d m payload (Frame.Task period deadline) e = rw e (idles refl)
+running-acts d m payload (Frame.Task period deadline priority) e = rw e (idles refl)
 running-acts d m payload (Frame.Queue receiver mask) e = rw e (idles refl)
 running-acts d m payload Frame.Go e = rw e (idles refl)
 running-acts d m payload (Frame.Send q i t) e = rw e sends
@@ -34,7 +34,7 @@ running-acts d m payload Frame.Bad e = idles refl
 abbrev pub Quiet : Frame → List ℕ → Type 0
 Quiet (Frame.Send q i t) answer = codeIn answer ≡ 0x7f
 Quiet (Frame.Receive q t) answer = codeIn answer ≡ 0x7f
-Quiet (Frame.Task period deadline) answer = Unit {0}
+Quiet (Frame.Task period deadline priority) answer = Unit {0}
 Quiet (Frame.Queue receiver mask) answer = Unit {0}
 Quiet Frame.Go answer = Unit {0}
 Quiet Frame.Bad answer = Unit {0}
@@ -72,8 +72,8 @@ module _ (d : Desk) (m : List ℕ) (e : d .running ≡ false) where
 
   pub waiting : (payload : List ℕ) (f : Frame) → Waits d m f (turnOf d m payload f)
   unfolding withTask withQueue goTurn
-  waiting payload (Frame.Task period deadline) =
-      row-waits (Frame.Task period deadline) (leb taskLimit (d .tasks)) (withTask d period deadline) e (λ answer. tt)
+  waiting payload (Frame.Task period deadline priority) =
+      row-waits (Frame.Task period deadline priority) (leb taskLimit (d .tasks)) (withTask d period deadline priority) e (λ answer. tt)
   waiting payload (Frame.Queue receiver mask) =
       row-waits (Frame.Queue receiver mask) (leb queueLimit (d .queues)) (withQueue d receiver mask) e (λ answer. tt)
   waiting payload Frame.Go = stopped (bad d m) _ (plan-waits (planned d .answer) refl)

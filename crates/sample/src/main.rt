@@ -8,6 +8,9 @@ use plan::Plan;
 // Table A: two probes, every 5 and 7 ticks, and a chart, every 10, with deadlines equal to periods. Rows behind the third are ignored.
 const PERIOD: [u64; Plan::TASKS] = [5, 7, 10, 0, 0, 0, 0, 0, 0, 0, 0, 0, 0, 0, 0, 0];
 
+// All of one priority: of equal deadlines the lower row goes first.
+const PRIORITY: [u8; Plan::TASKS] = [0; Plan::TASKS];
+
 // Queue 0 is received by task 2.
 const RECEIVER: [usize; Plan::QUEUES] = [2, 0, 0, 0, 0, 0, 0, 0];
 
@@ -23,7 +26,7 @@ fn main() {
     let damp = b"damp: 41 %             \n";
     let filler = b"no reading             \n";
     let mut memory = [0u8; Plan::MOST_SLOTS * Plan::SLOT_BYTES];
-    let plan = planning::make_plan(3, 1, PERIOD, PERIOD, RECEIVER, senders()).plan;
+    let plan = planning::make_plan(3, 1, PERIOD, PERIOD, PRIORITY, RECEIVER, senders()).plan;
     let started = State::start(plan, &mut memory);
     let sent = started.state.send(plan, &mut memory, 0, 1, Tick(3), damp);
     let first = sent.state.receive(plan, &memory, 0, Tick(10));

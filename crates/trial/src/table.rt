@@ -27,6 +27,15 @@ fn tasks_of(line: &[u8]) -> Plan {
     table
 }
 
+// The table with the priorities of a line `urgency V V ..`, 0 where none is written.
+fn urgent(before: Plan, line: &[u8]) -> Plan {
+    let mut table = before;
+    for i in 0..Plan::TASKS {
+        table.priority[i] = (number(line, i) % 256) as u8;
+    }
+    table
+}
+
 // The table with the queue of a line `queue R s s ..` added.
 fn queue_added(before: Plan, line: &[u8]) -> Plan {
     let mut table = before;
@@ -52,6 +61,7 @@ pub fn table_after(table: Plan, line: &[u8]) -> Plan {
     let word = letter(line, 0);
     match word {
         b't' => tasks_of(line),
+        b'u' => urgent(table, line),
         b'q' => queue_added(table, line),
         _ => table,
     }
@@ -70,6 +80,7 @@ fn say_plan(plan: Plan) {
 fn planned(table: Plan) -> Plan {
     let period = table.period;
     let deadline = table.deadline;
+    let priority = table.priority;
     let receiver = table.receiver;
     let sends = table.sends;
     let made = planning::make_plan(
@@ -77,6 +88,7 @@ fn planned(table: Plan) -> Plan {
         table.queues,
         period,
         deadline,
+        priority,
         receiver,
         soundness::square::square_of(sends),
     );
@@ -100,6 +112,7 @@ fn altered(before: Plan, line: &[u8]) -> Plan {
         b'q' => plan.queues = i,
         b'p' => plan.period[i % Plan::TASKS] = value,
         b'd' => plan.deadline[i % Plan::TASKS] = value,
+        b'u' => plan.priority[i % Plan::TASKS] = (value % 256) as u8,
         b'r' => plan.receiver[i % Plan::QUEUES] = value as usize,
         b's' => plan.sends[i % Plan::CELLS] = value != 0,
         b'l' => plan.size[i % Plan::QUEUES] = value as usize,

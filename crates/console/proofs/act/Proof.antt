@@ -14,14 +14,14 @@ table c =
 
 call-line-requires : tie.Need-call-line-requires
 call-line-requires c κs =
-    let s = c .before .before .before .before .before .before .before .before .before .before .before .before .before .before in
+    let s = c .before .before .before .before .before .before .before .before .before .before .before .before .before .before .before in
     let k = s .before .before .before .before .before .before .before .before in
     (λ runs. s .sound .ensures, k .pre, remembers-nothing (k .args .desk .plan) (c .nothing .ensures))
 
 calls : tie.Need-returns-2
 calls c =
     let l = c .before .before .before .before .before .before in
-    let t = l .before .before .before .before .before .before .before .before .before .before in
+    let t = l .before .before .before .before .before .before .before .before .before .before .before in
     let i = t .before .before .before .before .before .before .before .before in
     let a = i .before .before .before .before .before .args in
     rw (passed (i .before .is-call .ensures) (i .if1 .left), c .with-state .ensures)

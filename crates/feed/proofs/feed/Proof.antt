@@ -127,20 +127,23 @@ add-at k = omega (arith, end-inside k, start (ended k) .good .1 .1 .1 .1 .0 .0)
 call-line-requires : tie.Need-call-line-requires Inv-loop μ-loop
 unfolding withState
 call-line-requires c κs =
-    let k = c .before .before .before .before .before .before .before .before .before .before .before .before .before .before .before in
+    let k = c .before .before .before .before .before .before .before .before .before .before .before .before .before .before .before .before in
     (λ runs. sym (turn k .loop .inv .0 .sound .sound runs), room k, turn k .loop .inv .2)
 
 module _ (c : tie.After-struct-known Inv-loop μ-loop) where
   abbrev called : tie.After-call-line Inv-loop μ-loop
   called = c .before .before .before .before .before .before .before
 
+  abbrev shown : tie.After-payload-in Inv-loop μ-loop
+  shown = called .before .before
+
   abbrev call-frame : tie.After-frame-of Inv-loop μ-loop
-  call-frame = called .before .before .before .before .before .before .before .before .before .before .before .before .before .before .before .before
+  call-frame = shown .before .before .before .before .before .before .before .before .before .before .before .before .before .before .before
 
   call-arm : Arm call-frame
   unfolding withState
   call-arm =
-      let i = called .before .before .before .before .before .before .before .before .before .before .before .before .before .before in
+      let i = shown .before .before .before .before .before .before .before .before .before .before .before .before .before in
       record {
         result = _;
         memory′ = _;
@@ -148,7 +151,7 @@ module _ (c : tie.After-struct-known Inv-loop μ-loop) where
         same-size = c .before .before .before .before .before .before .memory .given;
         takes =
             call-taken (desk call-frame) _ _ _ (call-frame .frame-of .ensures) (i .before .is-call .ensures)
-            (called .before .before .payload-in .ensures .0) (i .if2 .taken) (called .call-line .ensures .0);
+            (shown .payload-in .ensures .0) (i .if2 .taken) (called .call-line .ensures .0);
       }
 
 add-w : tie.Need-add-w Inv-loop μ-loop
@@ -214,7 +217,7 @@ feed-spec =
     (λ c. search needs) (λ c. simp length-take (omega (arith, c .before .before .before .before .bytes-until .ensures .0))) (λ c κs. search needs)
     add-at (λ c κs. search needs)
     (λ c. search needs)
-    (λ c. let l = line (c .before .before .before .before .before .before .before .before .before .before .before .before .before) in
+    (λ c. let l = line (c .before .before .before .before .before .before .before .before .before .before .before .before .before .before) in
     simp length-take (omega (arith, l .bytes-until .ensures .0)))
     (λ c κs. search needs)
     (λ c. search needs) (λ c. search needs) (λ c. search needs) call-line-requires

@@ -36,4 +36,5 @@ add-task-spec =
     room
     (λ c. let f = room c in search needs)
     room
+    room
     returns-2)

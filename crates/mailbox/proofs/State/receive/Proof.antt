@@ -15,13 +15,13 @@ made s p m q t r e = rw (e .0, e .1, e .2)
 
 receive-on-requires : tie.Need-receive-on-requires
 receive-on-requires c κs =
-    let s = c .before .before .before .before .before .before .before .before .before .before in
+    let s = c .before .before .before .before .before .before .before .before .before .before .before in
     (s .sound .ensures, remembers-nothing (s .before .before .args .t2) (c .nothing .ensures))
 
 returns : tie.Need-returns
 returns c =
     let o = c .before in
-    let a = o .before .before .before .before .before .before .before .before .before .before .before .before .before .args in
+    let a = o .before .before .before .before .before .before .before .before .before .before .before .before .before .before .args in
     made (a .t1) (a .t2) (a .memory .now) (a .queue) (a .at .0) (o .receive-on .result) (o .receive-on .ensures .0)
 
 pub receive-spec : {M : Type 1} → statement M

@@ -16,7 +16,7 @@ made s p m q i t payload e = rw (e .0, e .1) (refl, e .2)
 returns : tie.Need-returns
 returns c =
     let o = c .before .before .before in
-    let a = o .before .before .before .before .before .before .before .before .before .before .before .before .before .before .args in
+    let a = o .before .before .before .before .before .before .before .before .before .before .before .before .before .before .before .args in
     made (a .t1) (a .t2) (a .memory .now) (a .queue) (a .task) (a .at .0) (a .payload .now) (o .send-on .ensures)
 
 pub send-spec : {M : Type 1} → statement M
@@ -24,6 +24,6 @@ send-spec =
     tie.close
     (tie.spec
     (λ c κs. search needs)
-    (λ c κs. c .before .before .before .before .before .before .before .before .before .before .sound .ensures)
+    (λ c κs. c .before .before .before .before .before .before .before .before .before .before .before .sound .ensures)
     (λ c. search needs)
     returns)
