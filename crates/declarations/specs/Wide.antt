@@ -1,5 +1,5 @@
--- The rows of declarations have all their columns.
-use Rattle.common.specs.Words.{ℕ, refl, eqb}
+-- The rows of declarations have all their columns, and no Priority over 255.
+use Rattle.common.specs.Words.{ℕ, arith, refl, eqb}
 use Rattle.words.specs.Kinds.{THREAD, PROCESS, FEATURES, SUBCOMPONENTS, PROPERTIES}
 use Rattle.tokens.specs.Laws.{cases}
 use Rattle.steps.specs.Steps.{On, head, next, is, the}
@@ -19,8 +19,8 @@ use Rattle.declarations.specs.Declarations.{threadImplementation, proces
 listed-wide : (word place : ℕ) → WideOn (listed word place)
 unfolding listed
 listed-wide word place ps ts =
-    cases Wide (eqb word FEATURES) (λ _. features-wide place ps ts)
-    (λ _. cases Wide (eqb word SUBCOMPONENTS) (λ _. subcomponents-wide place ps ts) (λ _. connections-wide place ps ts))
+    cases (Wide ps) (eqb word FEATURES) (λ _. features-wide place ps ts)
+    (λ _. cases (Wide ps) (eqb word SUBCOMPONENTS) (λ _. subcomponents-wide place ps ts) (λ _. connections-wide place ps ts))
 
 list-wide : (word place : ℕ) → WideOn (listIn word place)
 unfolding listIn
@@ -30,14 +30,14 @@ list-wide word place ps ts =
 properties-wide : (of : ℕ) → WideOn (propertiesOf of)
 unfolding propertiesOf
 properties-wide of ps ts =
-    cases Wide (eqb of aProcess) (λ _. properties-in-wide ofProcess ps ts)
+    cases (Wide ps) (eqb of aProcess) (λ _. properties-in-wide ofProcess ps ts)
     (λ _. wide-adding (propertiesIn ofThread) (properties-in-wide ofThread) ps ts)
 
 section-wide : (of place : ℕ) → WideOn (section of place)
 unfolding section
 section-wide of place ps ts =
-    cases Wide (listKind of (next ts)) (λ _. list-wide (next ts) place ps ts)
-    (λ _. cases Wide (is PROPERTIES ts) (λ _. properties-wide of ps ts) (λ _. wide-silent _ refl))
+    cases (Wide ps) (listKind of (next ts)) (λ _. list-wide (next ts) place ps ts)
+    (λ _. cases (Wide ps) (is PROPERTIES ts) (λ _. properties-wide of ps ts) (λ _. wide-silent _ refl (λ l. l)))
 
 sections-wide : (of place : ℕ) → WideOn (sections of place)
 unfolding sections
@@ -50,7 +50,7 @@ thread-type-wide ps ts =
     (wide-onward _ (quiet (typeEnd (typeName (On ts))))
     (wide-onward _ (sections aType (typeName (On ts) .start)) (wide-quiet typeHead ps ts) (sections-wide aType (typeName (On ts) .start)))
     (wide-quiet (typeEnd (typeName (On ts)))))
-    (wide-put (λ qs. typeRow (typeName (On ts) .start) (parentIn (On ts)) qs) (λ qs. refl))
+    (wide-put (λ qs. typeRow (typeName (On ts) .start) (parentIn (On ts)) qs) (λ qs. refl) (λ qs l. l))
 
 implementation-wide : (word of place : ℕ) → WideOn (implementation word of place)
 unfolding implementation
@@ -64,10 +64,10 @@ unfolding threadImplementation implementationRow
 thread-implementation-wide ps ts =
     wide-onward _ (put (λ qs. implementationRow (firstName THREAD (On ts) .start) (secondName THREAD (On ts) .start) qs))
     (implementation-wide THREAD anImplementation 0 ps ts)
-    (wide-put (λ qs. implementationRow (firstName THREAD (On ts) .start) (secondName THREAD (On ts) .start) qs) (λ qs. refl))
+    (wide-put (λ qs. implementationRow (firstName THREAD (On ts) .start) (secondName THREAD (On ts) .start) qs) (λ qs. refl) (λ qs l. l))
 
 pub process-wide : WideOn processImplementation
 unfolding processImplementation processRow
 process-wide ps ts =
     wide-onward _ (put (λ qs. processRow (head ts .start))) (implementation-wide PROCESS aProcess (head ts .start) ps ts)
-    (wide-put (λ qs. processRow (head ts .start)) (λ qs. refl))
+    (wide-put (λ qs. processRow (head ts .start)) (λ qs. refl) (λ qs l. omega arith))

@@ -188,7 +188,7 @@ pub fn thread_type(text: &[u8], rows: &mut [usize], reading: Reading) -> Reading
     put(
         rows,
         whole,
-        [A_TYPE, 0, named, parent, 0, p[0], p[1], p[2], p[3]],
+        [A_TYPE, 0, named, parent, 0, p[0], p[1], p[2], p[3], p[4]],
     )
 }
 
@@ -247,6 +247,7 @@ pub fn thread_implementation(text: &[u8], rows: &mut [usize], reading: Reading) 
             p[1],
             p[2],
             p[3],
+            p[4],
         ],
     )
 }
@@ -259,5 +260,5 @@ pub fn process_implementation(text: &[u8], rows: &mut [usize], reading: Reading)
     let went = reading.went;
     let place = start_of(text, went);
     let whole = implementation(text, rows, reading, PROCESS, A_PROCESS, place);
-    put(rows, whole, [A_PROCESS, place, place, 0, 0, 0, 0, 0, 0])
+    put(rows, whole, [A_PROCESS, place, place, 0, 0, 0, 0, 0, 0, 0])
 }

@@ -1,5 +1,5 @@
 -- A port's row has all its columns.
-use Rattle.common.specs.Words.{ℕ, refl}
+use Rattle.common.specs.Words.{ℕ, arith, refl}
 use Rattle.words.specs.Kinds.{SEMICOLON}
 use Rattle.tokens.specs.Laws.{cases}
 use Rattle.steps.specs.Steps.{On, head, next, named, the}
@@ -17,11 +17,11 @@ port-wide o n ps ts =
     wide-onward _ (put (λ qs. portRow o n (directionOf (On ts)) qs))
     (wide-onward _ (quiet (the SEMICOLON)) (wide-onward _ (maybeBlockIn ofPort) (wide-quiet portHead ps ts) (maybe-block-wide ofPort))
     (wide-quiet (the SEMICOLON)))
-    (wide-put (λ qs. portRow o n (directionOf (On ts)) qs) (λ qs. refl))
+    (wide-put (λ qs. portRow o n (directionOf (On ts)) qs) (λ qs. refl) (λ qs l. omega arith))
 
 feature-of-wide : (o n : ℕ) → WideOn (featureOf o n)
 unfolding featureOf
-feature-of-wide o n ps ts = cases Wide (otherFeature (next ts)) (λ _. wide-silent _ refl) (λ _. wide-apart (port o n) (port-wide o n) ps ts)
+feature-of-wide o n ps ts = cases (Wide ps) (otherFeature (next ts)) (λ _. wide-silent _ refl (λ l. l)) (λ _. wide-apart (port o n) (port-wide o n) ps ts)
 
 feature-wide : (o : ℕ) → WideOn (feature o)
 unfolding feature

@@ -67,7 +67,7 @@ fn port(text: &[u8], rows: &mut [usize], reading: Reading, owner: usize, named: 
     put(
         rows,
         whole,
-        [A_PORT, owner, named, way, props[TIMING], 0, 0, 0, 0],
+        [A_PORT, owner, named, way, props[TIMING], 0, 0, 0, 0, 0],
     )
 }
 

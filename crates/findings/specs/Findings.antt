@@ -29,6 +29,7 @@ noTable = record {
   queues = 0;
   period = replicate taskLimit 0;
   deadline = replicate taskLimit 0;
+  priority = replicate taskLimit 0;
   receiver = replicate queueLimit 0;
   sends = replicate cellLimit false;
 }

@@ -33,6 +33,7 @@ pub struct Table {
     pub queues: usize,
     pub period: [u64; Plan::TASKS],
     pub deadline: [u64; Plan::TASKS],
+    pub priority: [u8; Plan::TASKS],
     pub receiver: [usize; Plan::QUEUES],
     // task i sends into queue q: entry q * TASKS + i
     pub sends: [bool; Plan::CELLS],
@@ -88,6 +89,7 @@ pub fn no_table() -> Table
         queues: 0,
         period: [0; Plan::TASKS],
         deadline: [0; Plan::TASKS],
+        priority: [0; Plan::TASKS],
         receiver: [0; Plan::QUEUES],
         sends: [false; Plan::CELLS],
     }

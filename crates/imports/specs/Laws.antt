@@ -71,7 +71,7 @@ planning-accepted (PlanningAnswer.Refused r) e = absurd (let z : _≡_ {A = ℕ}
 made-by : (a : ReaderAnswer) (t : Table) → importBy a t .answer ≡ Answer.Accepted → Made (importBy a t .plan)
 unfolding importBy planned
 made-by ReaderAnswer.Sound t e =
-    accepted-made (t .tasks) (t .queues) (t .period) (t .deadline) (t .receiver) (squareOf (t .sends)) (planning-accepted _ e)
+    accepted-made (t .tasks) (t .queues) (t .period) (t .deadline) (t .priority) (t .receiver) (squareOf (t .sends)) (planning-accepted _ e)
 made-by (ReaderAnswer.Refused r) t e = absurd (let z : _≡_ {A = ℕ} 0 1 = cc in omega arith)
 made-by ReaderAnswer.NoRoom t e = absurd (let z : _≡_ {A = ℕ} 0 1 = cc in omega arith)
 

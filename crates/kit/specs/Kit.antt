@@ -2,7 +2,7 @@
 use Rattle.common.specs.Words.{ℕ, suc, _-_, _/_, _%_, Bool, false, not, cond, List, [], _∷_, eqb, length}
 use Rattle.common.specs.Table.{table}
 use Rattle.keys.specs.Keys.{key}
-use Rattle.rows.specs.Rows.{Row}
+use Rattle.rows.specs.Rows.{Row, periodColumn, deadlineColumn, priorityColumn}
 use Rattle.index.specs.Index.{aConnection}
 use Rattle.ways.specs.Ways.{cell, look, threadNamed, propertyOf}
 use Rattle.verdict.specs.Verdict.{none}
@@ -10,13 +10,17 @@ use Rattle.plan.specs.Limits.{taskLimit, queueLimit, cellLimit}
 use Rattle.chosen.specs.Chosen.{threadsOf, queuesOf, held, atOr}
 use Rattle.findings.specs.declared.Table.{Table}
 
--- a time that is there, in ticks
-abbrev pub ticks : ℕ → ℕ
-ticks time = time - 2
+-- the number that a value says, a time in ticks or a priority; 0 where there is none
+abbrev pub saidBy : ℕ → ℕ
+saidBy value = value - 2
 
--- "each with the Period, Deadline": a thread's time by its column. "No Deadline anywhere: equal to Period"
-unfoldable pub timeOf : List ℕ → List Row → ℕ → ℕ → ℕ
-timeOf p rows c k = ticks (cond (none (propertyOf p rows k c)) (propertyOf p rows k 5) (propertyOf p rows k c))
+-- "No Deadline anywhere: equal to Period"; in the place of any other there is nothing. "No Priority: 0"
+abbrev pub insteadOf : ℕ → ℕ
+insteadOf c = cond (eqb c deadlineColumn) periodColumn c
+
+-- "each with the Period, Deadline and Priority": a figure of a thread by its column
+unfoldable pub figureOf : List ℕ → List Row → ℕ → ℕ → ℕ
+figureOf p rows c k = saidBy (cond (none (propertyOf p rows k c)) (propertyOf p rows k (insteadOf c)) (propertyOf p rows k c))
 
 -- where a row stands among others, by its number
 unfoldable pub position : ℕ → List ℕ → ℕ
@@ -41,8 +45,9 @@ tableOf p rows =
     record {
       tasks = length ts;
       queues = length qs;
-      period = table (atOr ts (timeOf p rows 5) 0) taskLimit;
-      deadline = table (atOr ts (timeOf p rows 6) 0) taskLimit;
+      period = table (atOr ts (figureOf p rows periodColumn) 0) taskLimit;
+      deadline = table (atOr ts (figureOf p rows deadlineColumn) 0) taskLimit;
+      priority = table (atOr ts (figureOf p rows priorityColumn) 0) taskLimit;
       receiver = table (atOr qs (receiverOf p rows) 0) queueLimit;
       sends = table (sendsAt p rows ts qs) cellLimit;
     }

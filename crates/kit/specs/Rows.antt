@@ -1,4 +1,4 @@
--- Promise 4: rows are the threads in text order, each with the Period and Deadline that section 4 finds; queues in order of first
+-- Promise 4: rows are the threads in text order, each with the Period, Deadline and Priority that section 4 finds; queues in order of first
 -- connection; a sender is in a queue exactly where a connection says so.
 use Rattle.common.specs.Words.{ℕ, zero, suc, _-_, _/_, _%_, _<_, _≤_, arith, Bool, true, false, true≢false, not, cond, List, [], _∷_, _++_}
 use Rattle.common.specs.Words.{_≡_, refl, sym, ap, _∙_, _⊎_, inl, inr, ⊎-elim, eqb, eqb-true, ne-eqb, lt-ltb, length, length-append, getD}
@@ -6,7 +6,7 @@ use Rattle.common.specs.Words.{List·getD-append, getD-at}
 use Rattle.common.specs.Tests.{lt-or-le}
 use Rattle.common.specs.Table.{table, table-at}
 use Rattle.keys.specs.Keys.{Meaning, key, meant}
-use Rattle.rows.specs.Rows.{Row, aThread}
+use Rattle.rows.specs.Rows.{Row, aThread, periodColumn, deadlineColumn, priorityColumn}
 use Rattle.index.specs.Found.{found, found-le, found-at, found-first}
 use Rattle.index.specs.Index.{aConnection, keyBy, keysOf}
 use Rattle.index.specs.Laws.{keys-of-length, key-of}
@@ -14,7 +14,7 @@ use Rattle.ways.specs.Ways.{cell}
 use Rattle.verdict.specs.Verdict.{none}
 use Rattle.plan.specs.Limits.{taskLimit, queueLimit, cellLimit}
 use Rattle.chosen.specs.Chosen.{chosenBelow, threadsOf, queuesOf, atOr}
-use Rattle.kit.specs.Kit.{timeOf, receiverOf, joins, sendsAt, tableOf}
+use Rattle.kit.specs.Kit.{figureOf, receiverOf, joins, sendsAt, tableOf}
 
 -- ## What is chosen: exactly what is so, in its order
 
@@ -99,21 +99,30 @@ module _ (p : List ℕ) (rows : List Row) where
   row-thread i l = eqb-true (cell rows (getD (threadsOf rows) i 0) 0) aThread
       (chosen-so (λ (k : ℕ). eqb (cell rows k 0) aThread) (length rows) i l .1)
 
-  -- each with its Period and Deadline
+  -- what a column of the table has for one that there is
+  column-at : (ks : List ℕ) (of : ℕ → ℕ) (n i : ℕ) → i < n → i < length ks → getD (table (atOr ks of 0) n) i 0 ≡ of (getD ks i 0)
+  column-at ks of n i l h = table-at (atOr ks of 0) n i 0 l ∙ rw (lt-ltb i (length ks) h)
+
+  -- each with its Period, Deadline and Priority
   pub row-period : (i : ℕ) → i < taskLimit → i < length (threadsOf rows) →
-      getD (tableOf p rows .period) i 0 ≡ timeOf p rows 5 (getD (threadsOf rows) i 0)
+      getD (tableOf p rows .period) i 0 ≡ figureOf p rows periodColumn (getD (threadsOf rows) i 0)
   unfolding tableOf
-  row-period i l h = table-at (atOr (threadsOf rows) (timeOf p rows 5) 0) taskLimit i 0 l ∙ rw (lt-ltb i (length (threadsOf rows)) h)
+  row-period i l h = column-at (threadsOf rows) (figureOf p rows periodColumn) taskLimit i l h
 
   pub row-deadline : (i : ℕ) → i < taskLimit → i < length (threadsOf rows) →
-      getD (tableOf p rows .deadline) i 0 ≡ timeOf p rows 6 (getD (threadsOf rows) i 0)
+      getD (tableOf p rows .deadline) i 0 ≡ figureOf p rows deadlineColumn (getD (threadsOf rows) i 0)
   unfolding tableOf
-  row-deadline i l h = table-at (atOr (threadsOf rows) (timeOf p rows 6) 0) taskLimit i 0 l ∙ rw (lt-ltb i (length (threadsOf rows)) h)
+  row-deadline i l h = column-at (threadsOf rows) (figureOf p rows deadlineColumn) taskLimit i l h
+
+  pub row-priority : (i : ℕ) → i < taskLimit → i < length (threadsOf rows) →
+      getD (tableOf p rows .priority) i 0 ≡ figureOf p rows priorityColumn (getD (threadsOf rows) i 0)
+  unfolding tableOf
+  row-priority i l h = column-at (threadsOf rows) (figureOf p rows priorityColumn) taskLimit i l h
 
   pub queue-receiver : (j : ℕ) → j < queueLimit → j < length (queuesOf p rows) →
       getD (tableOf p rows .receiver) j 0 ≡ receiverOf p rows (getD (queuesOf p rows) j 0)
   unfolding tableOf
-  queue-receiver j l h = table-at (atOr (queuesOf p rows) (receiverOf p rows) 0) queueLimit j 0 l ∙ rw (lt-ltb j (length (queuesOf p rows)) h)
+  queue-receiver j l h = column-at (queuesOf p rows) (receiverOf p rows) queueLimit j l h
 
   pub queue-sender : (c : ℕ) → c < cellLimit → c / taskLimit < length (queuesOf p rows) → c % taskLimit < length (threadsOf rows) →
       getD (tableOf p rows .sends) c false ≡ joins p rows (getD (queuesOf p rows) (c / taskLimit) 0) (getD (threadsOf rows) (c % taskLimit) 0)

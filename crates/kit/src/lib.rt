@@ -18,27 +18,38 @@ ghost use Rattle.index.specs.Index.{rowsIn, Indexed};
 ghost use Rattle.ways.specs.Ways.{Known};
 ghost use Rattle.plan.specs.Limits.{taskLimit, queueLimit, cellLimit};
 ghost use Rattle.chosen.specs.Chosen.{threadsOf, queuesOf, chosen, atOr};
-ghost use Rattle.kit.specs.Kit.{ticks, timeOf, position, receiverOf, joins, sendsAt, tableOf};
+ghost use Rattle.kit.specs.Priorities.{Ranked, InBytes};
+ghost use Rattle.kit.specs.Kit.{saidBy, insteadOf, figureOf, position, receiverOf, joins, sendsAt, tableOf};
 
 const CONNECTION: usize = 7;
 
-// The columns of a thread's times.
+// The columns of a thread's figures.
 const PERIOD: usize = 5;
 
 const DEADLINE: usize = 6;
 
-// A time in ticks, of what a column holds.
-fn ticks(time: usize) -> u64
-    ensures { λ r. ⌜ r ≡ ticks time ⌝ }
+const PRIORITY: usize = 9;
+
+// The number that a value says, a time in ticks or a priority; 0 where there is none.
+fn said_by(value: usize) -> u64
+    ensures { λ r. ⌜ r ≡ saidBy value ⌝ }
 {
-    if time < 2 {
+    if value < 2 {
         return 0;
     }
-    (time - 2) as u64
+    (value - 2) as u64
 }
 
-// A time of thread k by its column, or else its Period.
-fn time(
+// The column that counts where one has nothing: the Period in the place of the Deadline.
+fn instead_of(c: usize) -> usize
+    requires { ⌜ c < rowWords ⌝ }
+    ensures { λ r. ⌜ (r ≡ insteadOf c) × (r < rowWords) ⌝ }
+{
+    if c == DEADLINE { PERIOD } else { c }
+}
+
+// A figure of thread k by its column.
+fn figure(
     text: &[u8],
     rows: &[usize],
     declared: &[u32],
@@ -48,17 +59,18 @@ fn time(
     c: usize,
 ) -> u64
     requires { ⌜ Known (now text) (now rows) (now declared) (now types) count × (k < count) × (c < rowWords) ⌝ }
-    ensures { λ r. ⌜ r ≡ timeOf (now (text .entry)) (rowsIn count (now (rows .entry))) c k ⌝ }
+    ensures { λ r. ⌜ r ≡ figureOf (now (text .entry)) (rowsIn count (now (rows .entry))) c k ⌝ }
 {
     let own = property_of(text, rows, declared, types, count, k, c);
     if own == 0 {
-        return ticks(property_of(text, rows, declared, types, count, k, PERIOD));
+        let instead = instead_of(c);
+        return said_by(property_of(text, rows, declared, types, count, k, instead));
     }
-    ticks(own)
+    said_by(own)
 }
 
 // Of task i, where there are so many.
-fn time_at(
+fn figure_at(
     text: &[u8],
     rows: &[usize],
     declared: &[u32],
@@ -71,16 +83,16 @@ fn time_at(
     requires { ⌜ Known (now text) (now rows) (now declared) (now types) count × (threads ≡ chosen (threadsOf (rowsIn count (now rows))))
         × (i < taskLimit) × (c < rowWords) ⌝ }
     ensures { λ r. ⌜ r ≡ atOr (threadsOf (rowsIn count (now (rows .entry))))
-        (timeOf (now (text .entry)) (rowsIn count (now (rows .entry))) c) 0 i ⌝ }
+        (figureOf (now (text .entry)) (rowsIn count (now (rows .entry))) c) 0 i ⌝ }
 {
     let first = threads.rows;
     if i < threads.count {
-        return time(text, rows, declared, types, count, first[i], c);
+        return figure(text, rows, declared, types, count, first[i], c);
     }
     0
 }
 
-fn times(
+fn figures(
     text: &[u8],
     rows: &[usize],
     declared: &[u32],
@@ -92,11 +104,23 @@ fn times(
     requires { ⌜ Known (now text) (now rows) (now declared) (now types) count
         × (threads ≡ chosen (threadsOf (rowsIn count (now rows)))) × (c < rowWords) ⌝ }
     ensures { λ r. ⌜ r ≡ table (atOr (threadsOf (rowsIn count (now (rows .entry))))
-        (timeOf (now (text .entry)) (rowsIn count (now (rows .entry))) c) 0) taskLimit ⌝ }
+        (figureOf (now (text .entry)) (rowsIn count (now (rows .entry))) c) 0) taskLimit ⌝ }
 {
     let mut out = [0u64; Plan::TASKS];
     for i in 0..Plan::TASKS {
-        out[i] = time_at(text, rows, declared, types, count, threads, i, c);
+        out[i] = figure_at(text, rows, declared, types, count, threads, i, c);
+    }
+    out
+}
+
+// The same figures, each in a byte.
+fn in_bytes(figures: [u64; Plan::TASKS]) -> [u8; Plan::TASKS]
+    requires { ⌜ InBytes figures ⌝ }
+    ensures { λ r. ⌜ r ≡ figures ⌝ }
+{
+    let mut out = [0u8; Plan::TASKS];
+    for i in 0..Plan::TASKS {
+        out[i] = figures[i] as u8;
     }
     out
 }
@@ -245,13 +269,14 @@ pub fn make_table(
     count: usize,
 ) -> Table
     requires { ⌜ Known (now text) (now rows) (now declared) (now types) count × Indexed (now text) 1 (now rows) (now connected) count
-        × Indexed (now text) 2 (now rows) (now queued) count ⌝ }
+        × Indexed (now text) 2 (now rows) (now queued) count × Ranked (rowsIn count (now rows)) ⌝ }
     ensures { λ r. ⌜ r ≡ tableOf (now (text .entry)) (rowsIn count (now (rows .entry))) ⌝ }
 {
     let tasks = threads(rows, count);
     let ports = queues(text, rows, queued, count);
-    let period = times(text, rows, declared, types, count, tasks, PERIOD);
-    let deadline = times(text, rows, declared, types, count, tasks, DEADLINE);
+    let period = figures(text, rows, declared, types, count, tasks, PERIOD);
+    let deadline = figures(text, rows, declared, types, count, tasks, DEADLINE);
+    let priority = in_bytes(figures(text, rows, declared, types, count, tasks, PRIORITY));
     let receiver = receivers(text, rows, declared, count, tasks, ports);
     let sends = senders(text, rows, connected, count, tasks, ports);
     Table {
@@ -259,6 +284,7 @@ pub fn make_table(
         queues: ports.count,
         period,
         deadline,
+        priority,
         receiver,
         sends,
     }

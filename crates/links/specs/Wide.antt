@@ -1,5 +1,5 @@
 -- A connection's row has all its columns.
-use Rattle.common.specs.Words.{ℕ, refl, _&&_}
+use Rattle.common.specs.Words.{ℕ, arith, refl, _&&_}
 use Rattle.words.specs.Kinds.{SEMICOLON}
 use Rattle.tokens.specs.Laws.{cases}
 use Rattle.steps.specs.Steps.{On, head, next, second, the}
@@ -19,12 +19,12 @@ link-wide p start n ps ts =
     (wide-onward _ (quiet (the SEMICOLON)) (wide-onward _ (maybeBlockIn ofPort) (wide-quiet (λ us. ends (On us)) ps ts) (maybe-block-wide ofPort))
     (wide-quiet (the SEMICOLON)))
     (wide-optionally (λ us. pointed (sending (On ts)) && pointed (receiving (On ts)))
-    (put (linked p start n (On ts))) (wide-put (linked p start n (On ts)) (λ qs. refl)))
+    (put (linked p start n (On ts))) (wide-put (linked p start n (On ts)) (λ qs. refl) (λ qs l. omega arith)))
 
 connection-of-wide : (p start n : ℕ) → WideOn (connectionOf p start n)
 unfolding connectionOf
 connection-of-wide p start n ps ts =
-    cases Wide (otherKind (next ts) (second ts)) (λ _. wide-silent _ refl) (λ _. wide-apart (link p start n) (link-wide p start n) ps ts)
+    cases (Wide ps) (otherKind (next ts) (second ts)) (λ _. wide-silent _ refl (λ l. l)) (λ _. wide-apart (link p start n) (link-wide p start n) ps ts)
 
 connection-wide : (p : ℕ) → WideOn (connection p)
 unfolding connection

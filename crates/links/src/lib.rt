@@ -127,6 +127,7 @@ fn link(
             ends.receiver,
             ends.into,
             timing_of(props[TIMING], ends.delayed),
+            0,
         ],
     )
 }

@@ -40,6 +40,15 @@ three-at a b c out o p q out′ i j k l e f g h x y z =
     let n : length (a ++ (b ++ c)) ≡ length a + length (b ++ c) = length-append a (b ++ c) in
     line-at (a ++ (b ++ c)) out q out′ i l (pieces a b c out o p q i j k e f g x y) h (omega (arith, m, n, x, y, z))
 
+-- and of four
+pub four-at : (a b c d out o p q r out′ : List ℕ) (i j k l m : ℕ) →
+    o ≡ sets out i (digits a) → p ≡ sets o j (digits b) → q ≡ sets p k (digits c) → r ≡ sets q l (digits d) → out′ ≡ sets r m (10 ∷ []) →
+    i + 2 * length a ≡ j → j + 2 * length b ≡ k → k + 2 * length c ≡ l → l + 2 * length d ≡ m →
+    out′ ≡ sets out i (lineOf (a ++ (b ++ (c ++ d))))
+four-at a b c d out o p q r out′ i j k l m e f g h n x y z w =
+    rw (← append-assoc a b (c ++ d))
+    (three-at (a ++ b) c d out p q r out′ i k l m (f ∙ rw e (piece a b out i j x)) g h n (omega (arith, length-append a b, x, y)) z w)
+
 three-length : (a b c : List ℕ) → length (lineOf (a ++ (b ++ c))) ≡ 2 * (length a + (length b + length c)) + 1
 three-length a b c =
     let m : length (b ++ c) ≡ length b + length c = length-append b c in
@@ -53,20 +62,35 @@ numbers-length i j k x y z =
 
 -- ## Lines behind each other
 
-task-length : (period deadline : ℕ) → length (lineOf (taskBytes period deadline)) ≡ taskLine
+task-length : (period deadline priority : ℕ) → length (lineOf (taskBytes period deadline priority)) ≡ taskLine
 unfolding taskBytes
-task-length period deadline = numbers-length 1 2 2 1 period deadline
+task-length period deadline priority =
+    let a = inBytes 1 0x01 in
+    let b = inBytes 2 period in
+    rw (← append-assoc a b (inBytes 2 deadline ++ inBytes 1 priority))
+    (omega (
+      arith,
+      three-length (a ++ b) (inBytes 2 deadline) (inBytes 1 priority),
+      length-append a b,
+      bytes-length 1 0x01,
+      bytes-length 2 period,
+      bytes-length 2 deadline,
+      bytes-length 1 priority,
+    ))
 
 queue-length : (receiver mask : ℕ) → length (lineOf (queueBytes receiver mask)) ≡ queueLine
 unfolding queueBytes
 queue-length receiver mask = numbers-length 1 1 2 2 receiver mask
 
-pub tasks-length : (period deadline : List ℕ) (n : ℕ) → length (eachTask period deadline n) ≡ taskLine * n
+pub tasks-length : (period deadline priority : List ℕ) (n : ℕ) → length (eachTask period deadline priority n) ≡ taskLine * n
 unfolding eachTask
-tasks-length period deadline zero = refl
-tasks-length period deadline (suc n) =
-    length-append (eachTask period deadline n) (lineOf (taskBytes (getD period n 0) (getD deadline n 0)))
-    ∙ omega (arith, tasks-length period deadline n, task-length (getD period n 0) (getD deadline n 0))
+tasks-length period deadline priority zero = refl
+tasks-length period deadline priority (suc n) =
+    let t = getD period n 0 in
+    let d = getD deadline n 0 in
+    let r = getD priority n 0 in
+    length-append (eachTask period deadline priority n) (lineOf (taskBytes t d r))
+    ∙ omega (arith, tasks-length period deadline priority n, task-length t d r)
 
 pub queues-length : (receiver : List ℕ) (sends : List Bool) (n : ℕ) → length (eachQueue receiver sends n) ≡ queueLine * n
 unfolding eachQueue
@@ -75,22 +99,23 @@ queues-length receiver sends (suc n) =
     length-append (eachQueue receiver sends n) (lineOf (queueBytes (getD receiver n 0) (maskOf (sender sends n) taskLimit)))
     ∙ omega (arith, queues-length receiver sends n, queue-length (getD receiver n 0) (maskOf (sender sends n) taskLimit))
 
-pub no-tasks : (period deadline l : List ℕ) → l ≡ sets l 0 (eachTask period deadline 0)
+pub no-tasks : (period deadline priority l : List ℕ) → l ≡ sets l 0 (eachTask period deadline priority 0)
 unfolding eachTask
-no-tasks period deadline l = refl
+no-tasks period deadline priority l = refl
 
 pub no-queues : (receiver : List ℕ) (sends : List Bool) (l : List ℕ) (at : ℕ) → l ≡ sets l at (eachQueue receiver sends 0)
 unfolding eachQueue
 no-queues receiver sends l at = refl
 
-pub tasks-more : (period deadline l : List ℕ) (n : ℕ) →
-    sets (sets l 0 (eachTask period deadline n)) (taskLine * n) (lineOf (taskBytes (getD period n 0) (getD deadline n 0)))
-    ≡ sets l 0 (eachTask period deadline (n + 1))
+pub tasks-more : (period deadline priority l : List ℕ) (n : ℕ) →
+    sets (sets l 0 (eachTask period deadline priority n)) (taskLine * n)
+    (lineOf (taskBytes (getD period n 0) (getD deadline n 0) (getD priority n 0)))
+    ≡ sets l 0 (eachTask period deadline priority (n + 1))
 unfolding eachTask
-tasks-more period deadline l n =
-    let before = eachTask period deadline n in
-    let line = lineOf (taskBytes (getD period n 0) (getD deadline n 0)) in
-    rw (add-one n, sets-append before line l 0, zero-add (length before), tasks-length period deadline n)
+tasks-more period deadline priority l n =
+    let before = eachTask period deadline priority n in
+    let line = lineOf (taskBytes (getD period n 0) (getD deadline n 0) (getD priority n 0)) in
+    rw (add-one n, sets-append before line l 0, zero-add (length before), tasks-length period deadline priority n)
 
 pub queues-more : (receiver : List ℕ) (sends : List Bool) (l : List ℕ) (at n : ℕ) →
     sets (sets l at (eachQueue receiver sends n)) (at + queueLine * n) (lineOf (queueBytes (getD receiver n 0) (maskOf (sender sends n) taskLimit)))
@@ -100,17 +125,17 @@ queues-more receiver sends l at n =
     let line = lineOf (queueBytes (getD receiver n 0) (maskOf (sender sends n) taskLimit)) in
     rw (add-one n, sets-append (eachQueue receiver sends n) line l at, queues-length receiver sends n)
 
-pub table-length : (period deadline receiver : List ℕ) (sends : List Bool) (m n : ℕ) →
-    length (eachTask period deadline m ++ (eachQueue receiver sends n ++ lineOf (0x03 ∷ []))) ≡ taskLine * m + queueLine * n + 3
-table-length period deadline receiver sends m n =
-    let t = eachTask period deadline m in
+pub table-length : (period deadline priority receiver : List ℕ) (sends : List Bool) (m n : ℕ) →
+    length (eachTask period deadline priority m ++ (eachQueue receiver sends n ++ lineOf (0x03 ∷ []))) ≡ taskLine * m + queueLine * n + 3
+table-length period deadline priority receiver sends m n =
+    let t = eachTask period deadline priority m in
     let q = eachQueue receiver sends n in
     length-append t (q ++ lineOf (0x03 ∷ []))
     ∙ omega (
       arith,
       length-append q (lineOf (0x03 ∷ [])),
       line-length (0x03 ∷ []),
-      tasks-length period deadline m,
+      tasks-length period deadline priority m,
       queues-length receiver sends n,
     )
 

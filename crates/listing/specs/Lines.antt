@@ -7,9 +7,9 @@ use Rattle.frames.specs.Answers.{lineOf}
 use Rattle.findings.specs.Findings.{numberOf}
 use Rattle.findings.specs.declared.Refusal.{Refusal}
 
--- "01: period (2 bytes), deadline (2)"
-unfoldable pub taskBytes : ℕ → ℕ → List ℕ
-taskBytes period deadline = inBytes 1 0x01 ++ (inBytes 2 period ++ inBytes 2 deadline)
+-- "01: period (2 bytes), deadline (2)"; "Line 01 gets a sixth byte, priority"
+unfoldable pub taskBytes : ℕ → ℕ → ℕ → List ℕ
+taskBytes period deadline priority = inBytes 1 0x01 ++ (inBytes 2 period ++ (inBytes 2 deadline ++ inBytes 1 priority))
 
 -- "02: receiver (1), sender mask (2, bit i for task i)"
 unfoldable pub queueBytes : ℕ → ℕ → List ℕ
@@ -24,9 +24,10 @@ abbrev pub sender : List Bool → ℕ → ℕ → Bool
 sender sends q i = getD sends (q * taskLimit + i) false
 
 -- the lines of the first n threads, and of the first n queues
-unfoldable pub eachTask : List ℕ → List ℕ → ℕ → List ℕ
-eachTask period deadline zero = []
-eachTask period deadline (suc n) = eachTask period deadline n ++ lineOf (taskBytes (getD period n 0) (getD deadline n 0))
+unfoldable pub eachTask : List ℕ → List ℕ → List ℕ → ℕ → List ℕ
+eachTask period deadline priority zero = []
+eachTask period deadline priority (suc n) =
+    eachTask period deadline priority n ++ lineOf (taskBytes (getD period n 0) (getD deadline n 0) (getD priority n 0))
 
 unfoldable pub eachQueue : List ℕ → List Bool → ℕ → List ℕ
 eachQueue receiver sends zero = []
@@ -36,7 +37,7 @@ eachQueue receiver sends (suc n) =
 -- "lines 01 for each thread, 02 for each queue, then 03"
 unfoldable pub tableLines : Plan → List ℕ
 tableLines p =
-    eachTask (p .period) (p .deadline) (min (p .tasks) taskLimit)
+    eachTask (p .period) (p .deadline) (p .priority) (min (p .tasks) taskLimit)
     ++ (eachQueue (p .receiver) (p .sends) (min (p .queues) queueLimit) ++ lineOf (0x03 ∷ []))
 
 -- "one line 7f, the number (1 byte), the place (4 bytes, high first)"
@@ -45,10 +46,10 @@ unreadBytes r = inBytes 1 0x7f ++ (inBytes 1 (numberOf (r .rule)) ++ inBytes 4 (
 
 -- how many bytes each line has, and room for the lines of any table
 abbrev pub taskLine : ℕ
-taskLine = 11
+taskLine = 13
 
 abbrev pub queueLine : ℕ
 queueLine = 9
 
 abbrev pub linesRoom : ℕ
-linesRoom = 256
+linesRoom = 288

@@ -12,10 +12,10 @@ ghost use Rattle.listing.specs.Lines.{linesRoom, taskLine, queueLine, ma
 ghost use Rattle.listing.specs.Lines.{eachQueue, tableLines, unreadBytes};
 
 // Enough for the lines of any table.
-pub const LINES_ROOM: usize = 256;
+pub const LINES_ROOM: usize = 288;
 
 // How many bytes the line of a thread has, and the line of a queue.
-const TASK_LINE: usize = 11;
+const TASK_LINE: usize = 13;
 
 const QUEUE_LINE: usize = 9;
 
@@ -27,23 +27,30 @@ fn end_line(out: &mut [u8], at: usize)
     out[at] = b'\n';
 }
 
-// 01, period (2 bytes), deadline (2).
-fn put_task(out: &mut [u8], at: usize, period: u64, deadline: u64)
+// 01, period (2 bytes), deadline (2), priority (1).
+fn put_task(out: &mut [u8], at: usize, period: u64, deadline: u64, priority: u8)
     requires { ⌜ at + taskLine ≤ length (now out) ⌝ }
-    ensures { λ _. ⌜ now (out .exit) ≡ sets (now (out .entry)) at (lineOf (taskBytes period deadline)) ⌝ }
+    ensures { λ _. ⌜ now (out .exit) ≡ sets (now (out .entry)) at (lineOf (taskBytes period deadline priority)) ⌝ }
 {
     put_number(out, at, 1, 0x01);
     put_number(out, at + 2, 2, period);
     put_number(out, at + 6, 2, deadline);
-    end_line(out, at + 10);
+    put_number(out, at + 10, 1, priority as u64);
+    end_line(out, at + 12);
 }
 
-fn put_tasks(out: &mut [u8], tasks: usize, period: [u64; Plan::TASKS], deadline: [u64; Plan::TASKS])
+fn put_tasks(
+    out: &mut [u8],
+    tasks: usize,
+    period: [u64; Plan::TASKS],
+    deadline: [u64; Plan::TASKS],
+    priority: [u8; Plan::TASKS],
+)
     requires { ⌜ (tasks ≤ taskLimit) × (linesRoom ≤ length (now out)) ⌝ }
-    ensures { λ _. ⌜ now (out .exit) ≡ sets (now (out .entry)) 0 (eachTask period deadline tasks) ⌝ }
+    ensures { λ _. ⌜ now (out .exit) ≡ sets (now (out .entry)) 0 (eachTask period deadline priority tasks) ⌝ }
 {
     for i in 0..tasks {
-        put_task(out, TASK_LINE * i, period[i], deadline[i]);
+        put_task(out, TASK_LINE * i, period[i], deadline[i], priority[i]);
     }
 }
 
@@ -114,9 +121,10 @@ pub fn write_table(out: &mut [u8], plan: Plan) -> usize
     let queues = least(plan.queues, Plan::QUEUES);
     let period = plan.period;
     let deadline = plan.deadline;
+    let priority = plan.priority;
     let receiver = plan.receiver;
     let sends = plan.sends;
-    put_tasks(out, tasks, period, deadline);
+    put_tasks(out, tasks, period, deadline, priority);
     put_queues(out, TASK_LINE * tasks, queues, receiver, sends);
     put_go(out, TASK_LINE * tasks + QUEUE_LINE * queues)
 }

@@ -1,6 +1,6 @@
 -- AADL.md, sections 2 to 4: other declarations, which are skipped, and the properties in them that would reach a thread from outside.
 use Rattle.common.specs.Words.{ℕ, Bool, true, false, cond, _&&_, List, [], _∷_, _++_, eqb, leb}
-use Rattle.words.specs.Kinds.{ENDED, END, SEMICOLON, APPLIES, BECOMES, ADDS, PERIOD, DISPATCH-OFFSET}
+use Rattle.words.specs.Kinds.{ENDED, END, SEMICOLON, APPLIES, BECOMES, ADDS, PERIOD, PRIORITY}
 use Rattle.words.specs.Kinds.{ABSTRACT, BUS, DATA, DEVICE, FEATURE, MEMORY, PROCESS, PROCESSOR, PROPERTY, SUBPROGRAM, SYSTEM, VIRTUAL}
 use Rattle.tokens.specs.Tokens.{Token}
 use Rattle.steps.specs.declared.Fault.{Fault}
@@ -30,9 +30,10 @@ otherKind k =
 unfoldable pub outsideKind : ℕ → Bool
 outsideKind k = cond (eqb k PROCESS) true (eqb k SYSTEM)
 
--- "a word Period, Deadline, Dispatch_Protocol, Dispatch_Offset .. that `=>` or `+=>` follows directly"; their kinds stand side by side
+-- "a word Period, Deadline, Dispatch_Protocol, Dispatch_Offset or Priority .. that `=>` or `+=>` follows directly"; their kinds stand side
+-- by side
 unfoldable pub reaching : ℕ → ℕ → Bool
-reaching k l = cond (leb PERIOD k && leb k DISPATCH-OFFSET) (cond (eqb l BECOMES) true (eqb l ADDS)) false
+reaching k l = cond (leb PERIOD k && leb k PRIORITY) (cond (eqb l BECOMES) true (eqb l ADDS)) false
 
 -- such words, until "applies" comes, which notes them, or `;`
 unfoldable pub waitingAfter : Bool → List Fault → ℕ → ℕ → ℕ → List Fault

@@ -20,12 +20,12 @@ use words::kinds::BECOMES;
 use words::kinds::BUS;
 use words::kinds::DATA;
 use words::kinds::DEVICE;
-use words::kinds::DISPATCH_OFFSET;
 use words::kinds::END;
 use words::kinds::ENDED;
 use words::kinds::FEATURE;
 use words::kinds::MEMORY;
 use words::kinds::PERIOD;
+use words::kinds::PRIORITY;
 use words::kinds::PROCESS;
 use words::kinds::PROCESSOR;
 use words::kinds::PROPERTY;
@@ -101,7 +101,7 @@ fn is_reaching(kind: usize, second: usize) -> bool
     if kind < PERIOD {
         return false;
     }
-    if DISPATCH_OFFSET < kind {
+    if PRIORITY < kind {
         return false;
     }
     if second == BECOMES {

@@ -20,11 +20,13 @@ use Rattle.phrases.specs.Laws.{nothing-moves}
 use Rattle.times.specs.Times.{Formed, formed}
 use Rattle.times.specs.Sums.{timeFrom}
 use Rattle.times.specs.Laws.{time-moves}
+use Rattle.times.specs.Priorities.{priorityFrom}
+use Rattle.times.specs.PriorityLaws.{priority-moves}
 use Rattle.rows.specs.Rows.{Store, withRows}
 use Rattle.rows.specs.Said.{Said, said, Rule, quiet, _⨟_, optionally, repeat}
 use Rattle.rows.specs.States.{State, state, does}
 use Rattle.rows.specs.Laws.{MovesOn, moved-onward, moves-quiet, moves-optionally, moves-repeat, advances-on, by-went, does-then, does-on, does-off}
-use Rattle.properties.specs.Properties.{protocol, offset, timing, another, namedBy, setOf, propertyBy, innerName}
+use Rattle.properties.specs.Properties.{protocol, offset, priority, timing, another, namedBy, setOf, propertyBy, innerName}
 use Rattle.properties.specs.Properties.{propertyAt, ofThread, ofPort, ofProcess, readIn, rightBy, form}
 use Rattle.properties.specs.Properties.{secondTime, fromOutside, owned, noteIn, skippedIn, associationIn, associationsIn}
 use Rattle.properties.specs.Properties.{blockIn, maybeBlockIn, noneOr, propertiesIn}
@@ -76,11 +78,11 @@ read-there c (Stop f) h = absurd (true≢false (sym h ∙ rw (property-stopped f
     stay false true = refl
     stay false false = refl
 
-pub read-low : (c q : ℕ) → readIn c q ≡ true → q < 5
+pub read-low : (c q : ℕ) → readIn c q ≡ true → q < 6
 unfolding readIn
 read-low c q h = go (eqb c ofThread) (eqb c ofPort) h
   where
-    go : (a b : Bool) → cond a (ltb q timing) (cond b (eqb q timing) false) ≡ true → q < 5
+    go : (a b : Bool) → cond a (ltb q timing) (cond b (eqb q timing) false) ≡ true → q < 6
     go true b h = omega (arith, ltb-true q timing h)
     go false true h = omega (arith, eqb-true q timing h)
     go false false h = absurd (true≢false (sym h))
@@ -96,9 +98,14 @@ module _ (q : ℕ) (s : Step) where
   unfolding form
   form-offset e = rw e
 
-  pub form-name : protocol ≤ q → (q ≡ offset → ⊥) → form q s ≡ formed (s ⟫ name) (rightBy q (firstKind s)) []
+  pub form-priority : q ≡ priority → form q s ≡ priorityFrom s
   unfolding form
-  form-name l n = rw (le-ltb q protocol l, ne-eqb q offset n)
+  form-priority e = rw e
+
+  pub form-name : protocol ≤ q → (q ≡ offset → ⊥) → (q ≡ priority → ⊥) →
+      form q s ≡ formed (s ⟫ name) (rightBy q (firstKind s)) []
+  unfolding form
+  form-name l n m = rw (le-ltb q protocol l, ne-eqb q offset n, ne-eqb q priority m)
 
 -- ## What is said of it
 
@@ -186,13 +193,15 @@ unfolding form
 form-moves q ts =
     cases (λ (f : Formed). Moved 0 ts (f .went)) (ltb q protocol) (λ _. moved-less 0 (omega arith) (time-moves ts))
     (λ _. cases (λ (f : Formed). Moved 0 ts (f .went)) (eqb q offset) (λ _. moved-less 0 (omega arith) (value-moves ts))
-    (λ _. moved-less 0 (omega arith) (moves-name ts)))
+    (λ _. cases (λ (f : Formed). Moved 0 ts (f .went)) (eqb q priority) (λ _. moved-less 0 (omega arith) (priority-moves ts))
+    (λ _. moved-less 0 (omega arith) (moves-name ts))))
 
 form-stopped : (q : ℕ) (x : Fault) → form q (Stop x) .went ≡ Stop x
 unfolding form
 form-stopped q x =
     cases (λ (f : Formed). f .went ≡ Stop x) (ltb q protocol)
-    (λ _. refl) (λ _. cases (λ (f : Formed). f .went ≡ Stop x) (eqb q offset) (λ _. refl) (λ _. refl))
+    (λ _. refl) (λ _. cases (λ (f : Formed). f .went ≡ Stop x) (eqb q offset)
+    (λ _. refl) (λ _. cases (λ (f : Formed). f .went ≡ Stop x) (eqb q priority) (λ _. refl) (λ _. refl)))
 
 form-then : {n : ℕ} {ts : List Token} (q : ℕ) (s : Step) → Moved n ts s → Moved n ts (form q s .went)
 form-then {n} q (On us) (went g) = moved-less n (omega arith) (moved-on g (form-moves q us))

@@ -1,6 +1,6 @@
 -- AADL.md, section 4: the properties that are read.
 use Rattle.common.specs.Words.{ℕ, Bool, true, false, cond, _&&_, List, [], _∷_, eqb, ltb, getD, set}
-use Rattle.words.specs.Kinds.{PERIOD, DEADLINE, DISPATCH-PROTOCOL, DISPATCH-OFFSET, TIMING, TIMING-PROPERTIES, THREAD-PROPERTIES}
+use Rattle.words.specs.Kinds.{PERIOD, DEADLINE, DISPATCH-PROTOCOL, DISPATCH-OFFSET, PRIORITY, TIMING, TIMING-PROPERTIES, THREAD-PROPERTIES}
 use Rattle.words.specs.Kinds.{COMMUNICATION-PROPERTIES, PERIODIC, DELAYED, SCOPE, BECOMES, SEMICOLON, NONE, OPEN-BRACE, CLOSE-BRACE, PROPERTIES}
 use Rattle.tokens.specs.Tokens.{Token}
 use Rattle.steps.specs.declared.Fault.{Fault}
@@ -12,6 +12,7 @@ use Rattle.phrases.specs.Phrases.{nothing}
 use Rattle.rows.specs.Said.{Said, said, Rule, quiet, _⨟_, optionally, repeat}
 use Rattle.times.specs.Times.{Formed, formed}
 use Rattle.times.specs.Sums.{timeFrom}
+use Rattle.times.specs.Priorities.{priorityFrom}
 
 -- their places in a list of properties, and that of any other property
 abbrev pub period : ℕ
@@ -26,11 +27,14 @@ protocol = 2
 abbrev pub offset : ℕ
 offset = 3
 
+abbrev pub priority : ℕ
+priority = 4
+
 abbrev pub timing : ℕ
-timing = 4
+timing = 5
 
 abbrev pub another : ℕ
-another = 5
+another = 6
 
 -- "property": by its NAME
 unfoldable pub namedBy : ℕ → ℕ
@@ -39,11 +43,14 @@ namedBy kind =
     (cond (eqb kind DEADLINE) deadline
     (cond (eqb kind DISPATCH-PROTOCOL) protocol
     (cond (eqb kind DISPATCH-OFFSET) offset
-    (cond (eqb kind TIMING) timing another))))
+    (cond (eqb kind PRIORITY) priority
+    (cond (eqb kind TIMING) timing another)))))
 
 -- "also as": the set that its NAME may stand in
 unfoldable pub setOf : ℕ → ℕ
-setOf q = cond (eqb q protocol) THREAD-PROPERTIES (cond (eqb q timing) COMMUNICATION-PROPERTIES TIMING-PROPERTIES)
+setOf q =
+    cond (eqb q protocol) THREAD-PROPERTIES
+    (cond (eqb q priority) THREAD-PROPERTIES (cond (eqb q timing) COMMUNICATION-PROPERTIES TIMING-PROPERTIES))
 
 -- by the kinds of the first four tokens: NAME, or NAME "::" NAME, and no "::" behind it
 unfoldable pub propertyBy : ℕ → ℕ → ℕ → ℕ → ℕ
@@ -70,7 +77,7 @@ ofProcess = 2
 unfoldable pub readIn : ℕ → ℕ → Bool
 readIn c q = cond (eqb c ofThread) (ltb q timing) (cond (eqb c ofPort) (eqb q timing) false)
 
--- "form": NUMBER unit, value, or NAME, of which one is right: Periodic, Delayed
+-- "form": NUMBER unit, value, NUMBER without a point, or NAME, of which one is right: Periodic, Delayed
 abbrev pub oneIf : Bool → ℕ
 oneIf right = cond right 1 2
 
@@ -81,7 +88,9 @@ unfoldable pub form : ℕ → Step → Formed
 form q s =
     let times = timeFrom s in
     let values = formed (s ⟫ value) 1 [] in
-    cond (ltb q protocol) times (cond (eqb q offset) values (formed (s ⟫ name) (rightBy q (firstKind s)) []))
+    let priorities = priorityFrom s in
+    let names = formed (s ⟫ name) (rightBy q (firstKind s)) [] in
+    cond (ltb q protocol) times (cond (eqb q offset) values (cond (eqb q priority) priorities names))
 
 -- what is wrong with a property: it stands there a second time, or it would reach threads from outside
 abbrev pub secondTime : ℕ

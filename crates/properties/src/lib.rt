@@ -17,6 +17,7 @@ use steps::start_of;
 use steps::symbol;
 use steps::worse;
 use times::Formed;
+use times::priorities::priority;
 use times::time;
 use values::association;
 use values::scoped;
@@ -38,9 +39,11 @@ pub const PROTOCOL: usize = 2;
 
 pub const OFFSET: usize = 3;
 
-pub const TIMING: usize = 4;
+pub const PRIORITY: usize = 4;
 
-const ANOTHER: usize = 5;
+pub const TIMING: usize = 5;
+
+const ANOTHER: usize = 6;
 
 // Where an association stands.
 pub const OF_THREAD: usize = 0;
@@ -70,6 +73,9 @@ fn named_by(kind: usize) -> usize
     if kind == kinds::DISPATCH_OFFSET {
         return OFFSET;
     }
+    if kind == kinds::PRIORITY {
+        return PRIORITY;
+    }
     if kind == kinds::TIMING {
         return TIMING;
     }
@@ -81,6 +87,9 @@ fn set_of(property: usize) -> usize
     ensures { λ r. ⌜ r ≡ setOf property ⌝ }
 {
     if property == PROTOCOL {
+        return kinds::THREAD_PROPERTIES;
+    }
+    if property == PRIORITY {
         return kinds::THREAD_PROPERTIES;
     }
     if property == TIMING {
@@ -151,6 +160,9 @@ fn form(text: &[u8], went: Went, property: usize) -> Formed
             fault: NO_FAULT,
         };
     }
+    if property == PRIORITY {
+        return priority(text, went);
+    }
     Formed {
         went: name(text, went),
         value: rightness(property, next(text, went)),
@@ -160,7 +172,7 @@ fn form(text: &[u8], went: Went, property: usize) -> Formed
 
 // A property that is read: the first counts, a second is noted.
 fn owned(text: &[u8], reading: Reading, property: usize) -> Reading
-    requires { ⌜ (property < 5) × (holds (λ ts. true) (lift (now text) (reading .went)) ≡ true) ⌝ }
+    requires { ⌜ (property < 6) × (holds (λ ts. true) (lift (now text) (reading .went)) ≡ true) ⌝ }
     ensures { λ r. ⌜ ((m : List ℕ) → stateOf (now (text .entry)) r m ≡ does (stateOf (now (text .entry)) reading m) (owned property)) ⌝ }
 {
     let went = reading.went;

@@ -1,16 +1,18 @@
 -- Laws of the reader: what ends a reading, what the state after a reading says, and the answer by the least fault.
 use Rattle.common.specs.Words.{ℕ, zero, suc, _*_, _<_, _≤_, min, arith, ⊎-elim, Bool, true, false, true≢false, _&&_, List, [], _∷_, _++_}
 use Rattle.common.specs.Words.{_≡_, refl, sym, ap, _∙_, eqb, eq-eqb, ne-eqb, leb, leb-true, ltb, length, length-append, take, take-all}
-use Rattle.common.specs.Words.{length-take-le}
+use Rattle.common.specs.Words.{length-take-le, getD, getD-replicate}
 use Rattle.common.specs.Tests.{lt-or-le}
 use Rattle.plain.specs.Plain.{plainOf}
 use Rattle.plain.specs.Case.{plain-length}
 use Rattle.tokens.specs.Tokens.{from}
+use Rattle.tokens.specs.Laws.{cases}
 use Rattle.steps.specs.declared.Fault.{Fault}
 use Rattle.steps.specs.declared.Went.{Went}
 use Rattle.steps.specs.Faults.{noFault, worse, worst}
 use Rattle.steps.specs.Lifted.{lift}
-use Rattle.rows.specs.Rows.{rowWords, store, withRows}
+use Rattle.rows.specs.Rows.{store, withRows}
+use Rattle.rows.specs.Wide.{wide, wide-low}
 use Rattle.rows.specs.declared.Reading.{Reading}
 use Rattle.rows.specs.Said.{noProps}
 use Rattle.rows.specs.States.{State, stateOf, does, begun}
@@ -21,7 +23,9 @@ use Rattle.texts.specs.Pays.{room}
 use Rattle.texts.specs.Wide.{whole-wide}
 use Rattle.verdict.specs.Verdict.{judged}
 use Rattle.kit.specs.Kit.{tableOf}
+use Rattle.kit.specs.Priorities.{Ranked, InBytes, priorities-fit}
 use Rattle.findings.specs.declared.Answer.the-variants.{Sound, Refused, NoRoom}
+use Rattle.findings.specs.declared.Read.{Read}
 use Rattle.findings.specs.declared.Table.{Table}
 use Rattle.findings.specs.Findings.{noTable, answered}
 use Rattle.reader.specs.Reader.{mostBytes, mostRows, treeRoom, rowsRoom, plainText, readFrom, endFaults, longFaults}
@@ -60,6 +64,11 @@ module _ (p m : List ℕ) (r : Reading) (long : Bool) {noted least : Fault} (e :
 abbrev ended : List ℕ → Reading → List ℕ → List ℕ → Type 0
 ended p r m n = stateOf p r n ≡ does (stateOf p begun m) wholeText
 
+-- its rows have all their columns, and no Priority over 255
+read-wide : (p : List ℕ) → wide (readFrom p .rows) ≡ true
+unfolding readFrom
+read-wide p = whole-wide noProps (from p 0) .all (omega arith)
+
 module _ (p : List ℕ) (r : Reading) (m n : List ℕ) (e : ended p r m n) where
   pub read-went : lift p (r .went) ≡ readFrom p .went
   unfolding does readFrom
@@ -73,34 +82,36 @@ module _ (p : List ℕ) (r : Reading) (m n : List ℕ) (e : ended p r m n) where
   unfolding does readFrom
   read-store = ap (λ (s : State). s .store) e
 
-  module _ (l : length p ≤ length m) where
+  module _ (l : length p ≤ mostBytes) (h : rowsRoom ≤ length m) where
     read-held : Held m 0 (readFrom p .rows) (store n (r .count))
     unfolding readFrom
-    read-held =
-        rw (read-store) (stored-held (readFrom p .rows) m 0 (whole-wide noProps (from p 0) .all) (omega (arith, room p, l)))
+    read-held = rw (read-store) (stored-held (readFrom p .rows) m 0 (read-wide p) (omega (arith, room p, l, h)))
 
     pub read-rows : rowsIn (r .count) n ≡ readFrom p .rows
     unfolding rowsIn
     read-rows = read-held .rows
 
-    pub read-few : rowWords * r .count ≤ length p
+    pub read-few : r .count ≤ mostRows
     unfolding readFrom
-    read-few = omega (arith, room p, read-held .count)
+    read-few = omega (arith, room p, l, read-held .count)
+
+    pub read-ranked : Ranked (rowsIn (r .count) n)
+    read-ranked = rw read-rows (record { low = wide-low (readFrom p .rows) (read-wide p) })
 
     pub read-size : length n ≡ length m
     read-size = read-held .size
 
 -- the answer of a plain text, as the code comes to it
-pub read-answer : (p : List ℕ) (r : Reading) (m n : List ℕ) (long : Bool) → ended p r m n → length p ≤ length m →
+pub read-answer : (p : List ℕ) (r : Reading) (m n : List ℕ) (long : Bool) → ended p r m n → length p ≤ mostBytes → rowsRoom ≤ length m →
     answerRead p n r long ≡ answerPlain p long
 unfolding answerRead answerPlain faultsIn
-read-answer p r m n long e l =
+read-answer p r m n long e l h =
     let s = readFrom p in
     let ends = endFaults (s .went) long (judged p (s .rows)) in
     let q : worst noFault (s .notes ++ longFaults long ++ ends) ≡ worst (worst (worst noFault (s .notes)) (longFaults long)) ends =
     worst-append noFault (s .notes ++ longFaults long) ends ∙ ap (λ (f : Fault). worst f ends)
     (worst-append noFault (s .notes) (longFaults long)) in
-    rw (read-rows p r m n e l, read-went p r m n e, read-fault p r m n e, q)
+    rw (read-rows p r m n e l h, read-went p r m n e, read-fault p r m n e, q)
 
 -- ## Room
 
@@ -109,10 +120,10 @@ both true b h = (refl, h)
 both false b h = absurd (true≢false (sym h))
 
 pub fitting : (n plain : ℕ) (rows declared connected queued types : List ℕ) →
-    enough plain (length rows) (length declared) (length connected) (length queued) (length types) ≡ true → rowWords * n ≤ mostBytes →
-    Fitting n rows declared connected queued types
+    enough plain (length rows) (length declared) (length connected) (length queued) (length types) ≡ true → n ≤ mostRows →
+    Ranked (rowsIn n rows) → Fitting n rows declared connected queued types
 unfolding enough
-fitting n plain rows declared connected queued types h l =
+fitting n plain rows declared connected queued types h l ranked =
     let a : Bool = leb rowsRoom (length rows) in
     let b : Bool = leb treeRoom (length declared) in
     let c : Bool = leb treeRoom (length connected) in
@@ -130,6 +141,7 @@ fitting n plain rows declared connected queued types h l =
       joined = omega (arith, leb-true treeRoom (length connected) (k .0), l);
       lined = omega (arith, leb-true treeRoom (length queued) (q .0), l);
       typed = omega (arith, leb-true mostRows (length types) (q .1), l);
+      ranked = ranked;
     }
 
 -- the plain text fits, and so do the rows
@@ -147,11 +159,9 @@ pub fitting-read : (p : List ℕ) (r : Reading) (m n declared connected queued t
     enough mostBytes (length m) (length declared) (length connected) (length queued) (length types) ≡ true →
     Fitting (r .count) n declared connected queued types
 fitting-read p r m n declared connected queued types e l h =
-    let k : length p ≤ length m = omega (
-      arith,
-      fitting-plain mostBytes (length m) (length declared) (length connected) (length queued) (length types) h .1,
-    ) in
-    fitting (r .count) mostBytes n declared connected queued types (rw (read-size p r m n e k) h) (omega (arith, read-few p r m n e k))
+    let k = fitting-plain mostBytes (length m) (length declared) (length connected) (length queued) (length types) h .1 in
+    fitting (r .count) mostBytes n declared connected queued types (rw (read-size p r m n e l k) h)
+    (read-few p r m n e l k) (read-ranked p r m n e l k)
 
 -- ## The plain text at the front of its memory
 
@@ -191,3 +201,14 @@ unfolding enough
 enough-plain plain rows declared connected queued types h =
     both (leb mostBytes plain) (leb rowsRoom rows && (leb treeRoom declared
     && (leb treeRoom connected && (leb treeRoom queued && leb mostRows types)))) h .1
+
+-- ## A text's priorities fit a byte
+
+pub priorities-low : (text : List ℕ) → InBytes (readOf text .table .priority)
+unfolding readOf answerPlain answerBy tableOf
+priorities-low text i l =
+    let p = plainText text in
+    let P : Read → Type 0 = λ (r : Read). getD (r .table .priority) i 0 ≤ 255 in
+    cases P (eqb (worst noFault (faultsIn p (ltb mostBytes (length text))) .number) 0)
+    (λ _. priorities-fit p (readFrom p .rows) (record { low = wide-low (readFrom p .rows) (read-wide p) }) i l)
+    (λ _. rw (getD-replicate {A = ℕ} _ i 0 0 l) (omega arith))

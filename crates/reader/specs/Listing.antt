@@ -20,6 +20,7 @@ use Rattle.phrases.specs.Phrases.{arrow, nothing, sectionKind, skipKind, skippe
 use Rattle.rows.specs.Rows.{processRow, typeRow, implementationRow, portRow, threadRow, linkRow}
 use Rattle.rows.specs.Said.{optionally, repeatBy, repeat, merged, apart, adding}
 use Rattle.times.specs.Times.{withByte, withBytes, filled, timeOf, time}
+use Rattle.times.specs.Priorities.{priorityOf, priority}
 use Rattle.properties.specs.Properties.{namedBy, setOf, propertyBy, propertyAt, readIn, rightBy, form, owned, noteIn, skippedIn, associationIn}
 use Rattle.properties.specs.Properties.{associationsIn, blockIn, maybeBlockIn, noneOr, propertiesIn}
 use Rattle.features.specs.Features.{directionOf, portHead, port, otherFeature, featureOf, feature, features}
@@ -62,6 +63,7 @@ tableA = record {
   queues = 1;
   period = 5 ∷ 7 ∷ 10 ∷ replicate 13 0;
   deadline = 5 ∷ 7 ∷ 10 ∷ replicate 13 0;
+  priority = 3 ∷ 2 ∷ 1 ∷ replicate 13 0;
   receiver = 2 ∷ replicate 7 0;
   sends = true ∷ true ∷ replicate 126 false;
 }
@@ -72,8 +74,8 @@ unfolding table sumBy numberBy padded wordsBy same listed rank kindOf lower two 
     valuesBy listBy recordBy partBy partOf value values scoped assigns association associations block restKind rest scopes dotted classifier joinKind
     path paths annex direction portKind linkKind place arrow nothing sectionKind skipKind skipped label maybeLabel maybeClassifier wordAndRest
     processRow typeRow implementationRow portRow threadRow linkRow optionally repeatBy repeat merged apart adding withByte withBytes filled timeOf
-    time namedBy setOf propertyBy propertyAt readIn rightBy form owned noteIn skippedIn associationIn associationsIn blockIn maybeBlockIn noneOr
-    propertiesIn directionOf portHead port otherFeature featureOf feature features typeIn implementationIn threadOf thread otherComponent
+    time priorityOf priority namedBy setOf propertyBy propertyAt readIn rightBy form owned noteIn skippedIn associationIn associationsIn blockIn
+    maybeBlockIn noneOr propertiesIn directionOf portHead port otherFeature featureOf feature features typeIn implementationIn threadOf thread otherComponent
     subcomponentOf subcomponent subcomponents ends timingBy declared link otherKind connectionOf labelIn connection connectionKind connections
     maybeExtends typeHead typeEnd threadType implementationHead implementationEnd implementation threadImplementation processImplementation listKind
     allowed listIn propertiesOf section sections outsideKind reaching waitingAfter notedAt lastKind passing pathEnd other declarationKind threadBy
@@ -82,5 +84,5 @@ unfolding table sumBy numberBy padded wordsBy same listed rank kindOf lower two 
     againFaults threadFaults outFaults inFaults twiceFaults joinFaults endFaults linkFaults rowFaults faultsBelow processFaults judged chosenBelow
     threadsOf queuesOf position receiverOf joins tableOf readFrom faultsIn faultsOf ruleOf answerBy answerPlain readOf
     Rattle.declarations.specs.Sections.listed Rattle.others.specs.Others.otherKind
-    Rattle.texts.specs.Texts.partKind Rattle.ways.specs.Ways.ends Rattle.kit.specs.Kit.timeOf
+    Rattle.texts.specs.Texts.partKind Rattle.ways.specs.Ways.ends Rattle.kit.specs.Kit.figureOf
 listing-1-is-table-a = refl

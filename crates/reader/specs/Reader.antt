@@ -15,6 +15,7 @@ use Rattle.index.specs.Index.{rowsIn, Indexed}
 use Rattle.rows.specs.Rows.{rowWords}
 use Rattle.ways.specs.Ways.{Known}
 use Rattle.kit.specs.Kit.{tableOf}
+use Rattle.kit.specs.Priorities.{Ranked}
 use Rattle.findings.specs.declared.Answer.the-variants.{Sound, Refused, NoRoom}
 use Rattle.findings.specs.declared.Read.{Read}
 use Rattle.findings.specs.declared.Refusal.{Refusal}
@@ -73,12 +74,12 @@ answerRead p m r long =
 
 -- ## Room
 
--- what a text can need: a row has 9 bytes of it at least, and a dictionary two entries for each row and two more
-abbrev pub rowsRoom : ℕ
-rowsRoom = mostBytes
-
+-- what a text can need: a row has 9 bytes of it at least and 10 numbers in memory, a dictionary two entries for each row and two more
 abbrev pub mostRows : ℕ
 mostRows = 29127
+
+abbrev pub rowsRoom : ℕ
+rowsRoom = 291270
 
 abbrev pub treeRoom : ℕ
 treeRoom = 58256
@@ -91,7 +92,7 @@ enough plain rows declared connected queued types =
 unfoldable pub answer : Bool → List ℕ → Read
 answer room text = cond room (readOf text) (answered NoRoom noTable)
 
--- so many rows fit
+-- so many rows fit, and no Priority of theirs is over 255
 pub record Fitting (count : ℕ) (rows declared connected queued types : List ℕ) : Type 0 where
   pub held : rowWords * count ≤ length rows
   pub few : count < 2 ^ 31
@@ -99,9 +100,11 @@ pub record Fitting (count : ℕ) (rows declared connected queued types : List �
   pub joined : 2 * count + 2 ≤ length connected
   pub lined : 2 * count + 2 ≤ length queued
   pub typed : count ≤ length types
+  pub ranked : Ranked (rowsIn count rows)
 
 -- the dictionaries of the rows, and the types above them
 pub record Prepared (p rows declared connected queued types : List ℕ) (count : ℕ) : Type 0 where
   pub known : Known p rows declared types count
   pub connections : Indexed p 1 rows connected count
   pub queues : Indexed p 2 rows queued count
+  pub ranked : Ranked (rowsIn count rows)

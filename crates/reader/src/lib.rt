@@ -33,9 +33,9 @@ ghost use Rattle.reader.specs.Unique.{ReadGives};
 // How much of a text is read, and how much memory is enough for any text.
 pub const MOST_BYTES: usize = 262_144;
 
-pub const ROWS_ROOM: usize = MOST_BYTES;
-
 pub const MOST_ROWS: usize = 29_127;
+
+pub const ROWS_ROOM: usize = 291_270;
 
 pub const TREE_ROOM: usize = 58_256;
 

@@ -11,6 +11,7 @@ use texts::A_DECLARATION;
 use times::NOT_WHOLE;
 use times::UNIT_MISSING;
 use times::UNIT_UNKNOWN;
+use times::priorities::A_PRIORITY;
 use values::A_VALUE;
 use values::TOO_DEEP;
 use verdict::CONNECTED_BEFORE;
@@ -66,6 +67,7 @@ fn wanted_words(why: usize) -> [u8; WIDTH] {
         NOT_WHOLE => wording::NOT_WHOLE,
         UNIT_UNKNOWN => wording::UNIT_UNKNOWN,
         UNIT_MISSING => wording::UNIT_MISSING,
+        A_PRIORITY => wording::A_PRIORITY,
         SECOND_TIME => wording::SECOND_TIME,
         FROM_OUTSIDE => wording::FROM_OUTSIDE,
         TOO_LONG => wording::TOO_LONG,

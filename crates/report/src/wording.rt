@@ -58,6 +58,8 @@ pub const UNIT_UNKNOWN: [u8; WIDTH] = *b"the unit ms or sec                     
 
 pub const UNIT_MISSING: [u8; WIDTH] = *b"a unit behind it, ms or sec                     ";
 
+pub const A_PRIORITY: [u8; WIDTH] = *b"a Priority, a whole number of 0 to 255          ";
+
 pub const SECOND_TIME: [u8; WIDTH] = *b"this property once                              ";
 
 pub const FROM_OUTSIDE: [u8; WIDTH] = *b"this property with a thread or its type         ";

@@ -54,11 +54,11 @@ put row ps ts = said (On ts) ps (row ps ∷ []) []
 -- ## Properties: a number for each that is read, 0 where it was not found
 
 abbrev pub noProps : List ℕ
-noProps = 0 ∷ 0 ∷ 0 ∷ 0 ∷ 0 ∷ []
+noProps = 0 ∷ 0 ∷ 0 ∷ 0 ∷ 0 ∷ 0 ∷ []
 
 -- each from the first that has it
 unfoldable pub merged : List ℕ → List ℕ → List ℕ
-merged a b = table (λ q. cond (eqb (getD a q 0) 0) (getD b q 0) (getD a q 0)) 5
+merged a b = table (λ q. cond (eqb (getD a q 0) 0) (getD b q 0) (getD a q 0)) 6
 
 -- a rule that begins with no properties, and leaves those that were found before it as they were
 unfoldable pub apart : Rule → Rule

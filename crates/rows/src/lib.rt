@@ -14,10 +14,10 @@ ghost use Rattle.rows.specs.Said.{quiet, put, merged};
 ghost use Rattle.rows.specs.States.{stateOf, does, begun, onWith, propsWith, faultWith, firstOf};
 
 // How many numbers a row has in memory.
-pub const ROW: usize = 9;
+pub const ROW: usize = 10;
 
 // The properties that are read: a number for each, 0 where it was not found.
-pub const PROPERTIES: usize = 5;
+pub const PROPERTIES: usize = 6;
 
 // What the rules have said so far: where the text goes on, the properties found, how many rows there are, and the least fault noted.
 pub struct Reading {

@@ -105,7 +105,7 @@ pub fn stop(text: &[u8], went: Went, number: usize, why: usize) -> Went
 }
 
 // What fits no rule.
-fn unfit(spot: Spot, why: usize) -> Went
+pub fn unfit(spot: Spot, why: usize) -> Went
     ensures { λ r. ⌜ r ≡ Went.Stopped (fault 20 (spot .start) why) ⌝ }
 {
     Went::Stopped(Fault {

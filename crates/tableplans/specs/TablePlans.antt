@@ -12,7 +12,7 @@ use Rattle.tableplans.specs.declared.Import.{Import}
 
 -- "The imported table goes through planning as any other"
 unfoldable pub planned : Table → Planned
-planned t = planOf (t .tasks) (t .queues) (t .period) (t .deadline) (t .receiver) (squareOf (t .sends))
+planned t = planOf (t .tasks) (t .queues) (t .period) (t .deadline) (t .priority) (t .receiver) (squareOf (t .sends))
 
 -- a sound text's refusals are planning's own, 1 to 6, with the row
 abbrev pub planningSays : PlanningAnswer → Answer

@@ -28,6 +28,7 @@ fn plan_of(table: Table) -> Planned
 {
     let period = table.period;
     let deadline = table.deadline;
+    let priority = table.priority;
     let receiver = table.receiver;
     let sends = table.sends;
     planning::make_plan(
@@ -35,6 +36,7 @@ fn plan_of(table: Table) -> Planned
         table.queues,
         period,
         deadline,
+        priority,
         receiver,
         square_of(sends),
     )

@@ -1,4 +1,4 @@
--- Every row that a text declares has all its columns.
+-- Every row that a text declares has all its columns, and no Priority over 255.
 use Rattle.common.specs.Words.{[], refl, _&&_, eqb}
 use Rattle.words.specs.Kinds.{THREAD, PROCESS, IMPLEMENTATION, GROUP, ANNEX, PACKAGE}
 use Rattle.tokens.specs.Laws.{cases}
@@ -16,21 +16,21 @@ unfolding other
 other-wide ps ts =
     wide-onward _ (quiet pathEnd)
     (wide-onward _ (passing (outsideKind (next ts)) []) (wide-quiet any ps ts)
-    (λ qs us. wide-silent _ (passing-silent (outsideKind (next ts)) [] qs us)))
+    (λ qs us. let q = passing-silent (outsideKind (next ts)) [] qs us in wide-silent _ (q .0) (λ l. rw (q .1) l)))
     (wide-quiet pathEnd)
 
 thread-by-wide : WideOn threadBy
 unfolding threadBy
 thread-by-wide ps ts =
-    cases Wide (eqb (second ts) IMPLEMENTATION) (λ _. thread-implementation-wide ps ts)
-    (λ _. cases Wide (eqb (second ts) GROUP) (λ _. other-wide ps ts) (λ _. thread-type-wide ps ts))
+    cases (Wide ps) (eqb (second ts) IMPLEMENTATION) (λ _. thread-implementation-wide ps ts)
+    (λ _. cases (Wide ps) (eqb (second ts) GROUP) (λ _. other-wide ps ts) (λ _. thread-type-wide ps ts))
 
 chosen-wide : WideOn chosen
 unfolding chosen
 chosen-wide ps ts =
-    cases Wide (is THREAD ts) (λ _. thread-by-wide ps ts)
-    (λ _. cases Wide (is ANNEX ts) (λ _. wide-silent _ refl)
-    (λ _. cases Wide (is PROCESS ts && eqb (second ts) IMPLEMENTATION) (λ _. process-wide ps ts) (λ _. other-wide ps ts)))
+    cases (Wide ps) (is THREAD ts) (λ _. thread-by-wide ps ts)
+    (λ _. cases (Wide ps) (is ANNEX ts) (λ _. wide-silent _ refl (λ l. l))
+    (λ _. cases (Wide ps) (is PROCESS ts && eqb (second ts) IMPLEMENTATION) (λ _. process-wide ps ts) (λ _. other-wide ps ts)))
 
 declaration-wide : WideOn declaration
 unfolding declaration
@@ -38,7 +38,7 @@ declaration-wide = wide-apart chosen chosen-wide
 
 part-wide : WideOn part
 unfolding part
-part-wide ps ts = cases Wide (clauseKind (next ts)) (λ _. wide-silent _ refl) (λ _. declaration-wide ps ts)
+part-wide ps ts = cases (Wide ps) (clauseKind (next ts)) (λ _. wide-silent _ refl (λ l. l)) (λ _. declaration-wide ps ts)
 
 parts-wide : WideOn parts
 unfolding parts
@@ -50,7 +50,7 @@ packaged-wide ps ts = wide-onward _ (quiet pathEnd) (wide-onward _ parts (wide-q
 
 piece-wide : WideOn piece
 unfolding piece
-piece-wide ps ts = cases Wide (is PACKAGE ts) (λ _. packaged-wide ps ts) (λ _. declaration-wide ps ts)
+piece-wide ps ts = cases (Wide ps) (is PACKAGE ts) (λ _. packaged-wide ps ts) (λ _. declaration-wide ps ts)
 
 pieces-wide : WideOn pieces
 unfolding pieces

@@ -1,4 +1,4 @@
--- A thread's row has all its columns.
+-- A thread's row has all its columns, and no Priority over 255.
 use Rattle.common.specs.Words.{ℕ, refl}
 use Rattle.words.specs.Kinds.{THREAD, SEMICOLON}
 use Rattle.tokens.specs.Laws.{cases}
@@ -17,7 +17,7 @@ thread-of-wide p n ps ts =
     wide-onward _ (put (λ qs. threadRow p n (typeIn ts) (implementationIn ts) qs))
     (wide-onward _ (quiet (the SEMICOLON)) (wide-onward _ (maybeBlockIn ofThread) (wide-quiet classifier ps ts) (maybe-block-wide ofThread))
     (wide-quiet (the SEMICOLON)))
-    (wide-put (λ qs. threadRow p n (typeIn ts) (implementationIn ts) qs) (λ qs. refl))
+    (wide-put (λ qs. threadRow p n (typeIn ts) (implementationIn ts) qs) (λ qs. refl) (λ qs l. l))
 
 thread-wide : (p n : ℕ) → WideOn (thread p n)
 unfolding thread
@@ -26,7 +26,7 @@ thread-wide p n ps ts = wide-onward _ (threadOf p n) (wide-quiet (the THREAD) ps
 subcomponent-of-wide : (p n : ℕ) → WideOn (subcomponentOf p n)
 unfolding subcomponentOf
 subcomponent-of-wide p n ps ts =
-    cases Wide (otherComponent (next ts)) (λ _. wide-silent _ refl) (λ _. wide-apart (thread p n) (thread-wide p n) ps ts)
+    cases (Wide ps) (otherComponent (next ts)) (λ _. wide-silent _ refl (λ l. l)) (λ _. wide-apart (thread p n) (thread-wide p n) ps ts)
 
 subcomponent-wide : (p : ℕ) → WideOn (subcomponent p)
 unfolding subcomponent

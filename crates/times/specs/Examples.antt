@@ -1,4 +1,4 @@
--- AADL.md's own times, and some beside them, reckoned by hand.
+-- AADL.md's own times and priorities, and some beside them, reckoned by hand.
 use Rattle.common.specs.Words.{ℕ, List, [], _∷_, _≡_, refl}
 use Rattle.words.specs.Letters.{letters}
 use Rattle.words.specs.Words.{NAME}
@@ -6,7 +6,9 @@ use Rattle.words.specs.Kinds.{ENDED, NUMBER, SEMICOLON, END, MS, SEC}
 use Rattle.tokens.specs.Tokens.{Token, token}
 use Rattle.steps.specs.Faults.{fault}
 use Rattle.steps.specs.Steps.{On, Stop}
-use Rattle.times.specs.Times.{withByte, withBytes, filled, most, Formed, formed, odd, timed, notWhole, unitUnknown, unitMissing, timeOf, time}
+use Rattle.times.specs.Times.{withByte, withBytes, filled, most, Formed, formed, odd, valued}
+use Rattle.times.specs.Times.{notWhole, unitUnknown, unitMissing, timeOf, time}
+use Rattle.times.specs.Priorities.{aPriority, priorityOf, priority}
 
 -- a number in milliseconds and in seconds
 abbrev ms : List ℕ → Formed
@@ -17,7 +19,7 @@ sec number = timeOf (token NUMBER 7 number) 3 (On [])
 
 -- what is whole, and what is not
 abbrev ticks : ℕ → Formed
-ticks n = formed (On []) (timed n) []
+ticks n = formed (On []) (valued n) []
 
 abbrev broken : Formed
 broken = formed (On []) odd (fault 22 7 notWhole ∷ [])
@@ -76,7 +78,7 @@ abbrev rest : List Token
 rest = token SEMICOLON 13 (letters ";") ∷ token ENDED 14 [] ∷ []
 
 -- a NUMBER at 3, the unit at 9: how the text goes on, the value and the notes
-seconds : time (token NUMBER 3 (letters "1.5") ∷ token SEC 9 (letters "sec") ∷ rest) ≡ formed (On rest) (timed 1500) []
+seconds : time (token NUMBER 3 (letters "1.5") ∷ token SEC 9 (letters "sec") ∷ rest) ≡ formed (On rest) (valued 1500) []
 unfolding withByte withBytes filled timeOf time
 seconds = refl
 
@@ -112,3 +114,48 @@ ended = refl
 no-number : time (token NAME 3 (letters "five") ∷ token MS 9 (letters "ms") ∷ rest) ≡ formed (Stop (fault 20 3 NUMBER)) 0 []
 unfolding withByte withBytes filled timeOf time
 no-number = refl
+
+-- ## Priorities
+
+abbrev rank : List ℕ → Formed
+rank number = priorityOf (token NUMBER 7 number) (On [])
+
+-- one that is there, and one that is over 255
+abbrev ranked : ℕ → Formed
+ranked n = formed (On []) (valued n) []
+
+abbrev over : Formed
+over = formed (On []) odd (fault 20 7 aPriority ∷ [])
+
+lowest : rank (letters "0") ≡ ranked 0
+unfolding withByte withBytes priorityOf
+lowest = refl
+
+-- underscores say nothing, nor do zeros before it
+highest : rank (letters "02_5_5_") ≡ ranked 255
+unfolding withByte withBytes priorityOf
+highest = refl
+
+-- "A Priority over 255 is 20 at its NUMBER, noted", and nothing overflows
+one-more : rank (letters "256") ≡ over
+unfolding withByte withBytes priorityOf
+one-more = refl
+
+huge-priority : rank (letters "1_000_000_000_000_000_000_000_000_000_000") ≡ over
+unfolding withByte withBytes priorityOf
+huge-priority = refl
+
+-- "NUMBER without a point": "anything else fits no rule"
+pointed : rank (letters "5.0") ≡ formed (Stop (fault 20 7 aPriority)) 0 []
+unfolding withByte withBytes priorityOf
+pointed = refl
+
+high : priority (token NAME 3 (letters "high") ∷ rest) ≡ formed (Stop (fault 20 3 aPriority)) 0 []
+unfolding priority
+high = refl
+
+-- what follows it is no part of it: `;` is wanted there
+unit-behind : priority (token NUMBER 3 (letters "5") ∷ token MS 9 (letters "ms") ∷ rest)
+    ≡ formed (On (token MS 9 (letters "ms") ∷ rest)) (valued 5) []
+unfolding withByte withBytes priorityOf priority
+unit-behind = refl

@@ -9,6 +9,7 @@ use Rattle.tokens.specs.Tokens.{Token, from}
 use Rattle.tokens.specs.Spots.{Stands, tokenOf, behind}
 use Rattle.tokens.specs.declared.Spot.{Spot}
 use Rattle.tokens.specs.Laws.{either, cases}
+use Rattle.steps.specs.declared.Fault.{Fault}
 use Rattle.steps.specs.declared.Went.{Went}
 use Rattle.steps.specs.Faults.{fault, noFault, worse, worst}
 use Rattle.steps.specs.Steps.{Step, On, head, next, any}
@@ -17,7 +18,7 @@ use Rattle.steps.specs.Laws.{Moved, stopped, moved-any, moved-then, moves-any}
 use Rattle.times.specs.declared.Sum.{Sum}
 use Rattle.times.specs.Times.{sum, withDigit, withByte, withBytes, tenfold, filled, most}
 use Rattle.times.specs.Times.{Formed, odd, notWhole, unitUnknown, unitMissing, timeOf, time}
-use Rattle.times.specs.Sums.{grown, counted, Forms, oddAt}
+use Rattle.times.specs.Sums.{grown, counted, Forms, formFrom, unformed, oddAt}
 
 -- ## Sums that stop at the most
 
@@ -78,34 +79,41 @@ filled-more grow n (suc k) h = let e : suc k - 1 ≡ k = omega arith in rw e
 
 -- ## The forms that the code reads
 
--- a number with its unit's places, of which the code has reckoned s; the definition's own sum is exact
-module _ (p : List ℕ) (n : Spot) (places : ℕ) (w : Went) (s : Sum) (reckoned : s ≡ counted (part p (n .start) (n .end - n .start)) places) where
-  exact : Sum
+-- a number with its places, of which the code has reckoned s; the definition's own sum is exact
+module _ (p : List ℕ) (n : Spot) (places : ℕ) (s : Sum) (reckoned : s ≡ counted (part p (n .start) (n .end - n .start)) places) where
+  abbrev pub exact : Sum
   exact = withBytes tenfold (sum 0 places false true) (part p (n .start) (n .end - n .start))
 
-  is-capped : s ≡ capped exact
-  unfolding exact
+  pub is-capped : s ≡ capped exact
   is-capped = reckoned ∙ counted-capped (part p (n .start) (n .end - n .start)) places
 
-  pub time-whole : (v : ℕ) → s .whole ≡ true → v ≡ filled grown (s .ticks) (s .places) →
-      Forms p (record { went = w; value = v + 2; fault = noFault }) (timeOf (tokenOf p n) places (lift p w))
-  unfolding exact timeOf worst
-  time-whole v h e =
-      let t : exact .whole ≡ true = sym (ap (λ (u : Sum). u .whole) is-capped) ∙ h in
-      let f : v ≡ min most (filled tenfold (exact .ticks) (exact .places)) =
-      e ∙ ap (λ (u : Sum). filled grown (u .ticks) (u .places)) is-capped ∙ filled-capped (exact .ticks) (exact .places) in
-      rw t (record { went = refl; value = omega arith; fault = refl })
+  -- with its unit
+  module _ (w : Went) where
+    pub time-whole : (v : ℕ) → s .whole ≡ true → v ≡ filled grown (s .ticks) (s .places) →
+        Forms p (record { went = w; value = v + 2; fault = noFault }) (timeOf (tokenOf p n) places (lift p w))
+    unfolding timeOf worst
+    time-whole v h e =
+        let t : exact .whole ≡ true = sym (ap (λ (u : Sum). u .whole) is-capped) ∙ h in
+        let f : v ≡ min most (filled tenfold (exact .ticks) (exact .places)) =
+        e ∙ ap (λ (u : Sum). filled grown (u .ticks) (u .places)) is-capped ∙ filled-capped (exact .ticks) (exact .places) in
+        rw t (record { went = refl; value = omega arith; fault = refl })
 
-  pub time-not-whole : s .whole ≡ false →
-      Forms p (record { went = w; value = odd; fault = fault 22 (n .start) notWhole }) (timeOf (tokenOf p n) places (lift p w))
-  unfolding exact timeOf worst worse
-  time-not-whole h =
-      let t : exact .whole ≡ false = sym (ap (λ (u : Sum). u .whole) is-capped) ∙ h in
-      rw t (record { went = refl; value = refl; fault = refl })
+    pub time-not-whole : s .whole ≡ false →
+        Forms p (record { went = w; value = odd; fault = fault 22 (n .start) notWhole }) (timeOf (tokenOf p n) places (lift p w))
+    unfolding timeOf worst worse
+    time-not-whole h =
+        let t : exact .whole ≡ false = sym (ap (λ (u : Sum). u .whole) is-capped) ∙ h in
+        rw t (record { went = refl; value = refl; fault = refl })
+
+-- where a rule before it has stopped
+pub stopped-before : (p : List ℕ) (form : List Token → Formed) (w : Went) (f : Fault) → w ≡ Went.Stopped f →
+    Forms p (unformed w) (formFrom form (lift p w))
+unfolding worst
+stopped-before p form w f e = rw e (record { went = refl; value = refl; fault = refl })
 
 -- a token that is no NUMBER
 pub time-unfit : (p : List ℕ) (at : ℕ) (n : Spot) → Stands p at n → (n .kind ≡ NUMBER → ⊥) →
-    Forms p (record { went = Went.Stopped (fault 20 (n .start) NUMBER); value = 0; fault = noFault }) (time (from p at))
+    Forms p (unformed (Went.Stopped (fault 20 (n .start) NUMBER))) (time (from p at))
 unfolding time worst
 time-unfit p at n here other = rw (here .tokens, ne-eqb (n .kind) NUMBER other) (record { went = refl; value = refl; fault = refl })
 
@@ -120,7 +128,7 @@ module _ (p : List ℕ) (at : ℕ) (n u : Spot) (here : Stands p at n) (number :
   unfolding behind
   two h = first ∙ ap (λ (ts : List Token). tokenOf p n ∷ ts) (rw (ne-eqb (u .kind) ENDED (λ e. omega arith)) at (follows .tokens))
 
-  pub time-missing : u .kind < firstName → Forms p (oddAt (Went.To (n .end)) (n .start) unitMissing) (time (from p at))
+  pub time-missing : u .kind < firstName → Forms p (oddAt (Went.To (n .end)) 22 (n .start) unitMissing) (time (from p at))
   unfolding time worst worse
   time-missing h =
       rw (first, follows .tokens, eq-eqb (n .kind) NUMBER number, lt-leb firstName (u .kind) h)
@@ -139,7 +147,7 @@ module _ (p : List ℕ) (at : ℕ) (n u : Spot) (here : Stands p at n) (number :
       rw (two h, eq-eqb (n .kind) NUMBER number, le-leb firstName (u .kind) h, ne-eqb (u .kind) MS (λ x. omega arith), eq-eqb (u .kind) SEC e)
 
   pub time-unknown : firstName ≤ u .kind → (u .kind ≡ MS → ⊥) → (u .kind ≡ SEC → ⊥) →
-      Forms p (oddAt (Went.To (u .end)) (u .start) unitUnknown) (time (from p at))
+      Forms p (oddAt (Went.To (u .end)) 22 (u .start) unitUnknown) (time (from p at))
   unfolding time worst worse
   time-unknown h a b =
       rw (two h, eq-eqb (n .kind) NUMBER number, le-leb firstName (u .kind) h, ne-eqb (u .kind) MS a, ne-eqb (u .kind) SEC b)
@@ -148,7 +156,7 @@ module _ (p : List ℕ) (at : ℕ) (n u : Spot) (here : Stands p at n) (number :
 -- ## How far a time goes
 
 -- a token is passed, and two
-one-moves : (ts : List Token) → (next ts ≡ ENDED → ⊥) → Moved 1 ts (On (drop 1 ts))
+pub one-moves : (ts : List Token) → (next ts ≡ ENDED → ⊥) → Moved 1 ts (On (drop 1 ts))
 unfolding any
 one-moves ts n = rw (ne-eqb (next ts) ENDED n) at (moved-any ts n)
 

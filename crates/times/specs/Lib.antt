@@ -2,4 +2,6 @@
 pub mod Times
 pub mod Sums
 pub mod Laws
+pub mod Priorities
+pub mod PriorityLaws
 pub mod Examples

@@ -1,5 +1,6 @@
 -- What the code reckons of a time: the same with sums that stop at the most, and a form as the definitions say it.
 use Rattle.common.specs.Words.{ℕ, _+_, _*_, min, true, false, List, [], _≡_}
+use Rattle.tokens.specs.Tokens.{Token}
 use Rattle.steps.specs.declared.Went.{Went}
 use Rattle.steps.specs.Faults.{fault, noFault, worst}
 use Rattle.steps.specs.Steps.{Step, On, Stop}
@@ -21,9 +22,16 @@ pub record Forms (p : List ℕ) (r : FormedCode) (f : Formed) : Type 0 where
   pub value : r .value ≡ f .value
   pub fault : r .fault ≡ worst noFault (f .notes)
 
-abbrev pub timeFrom : Step → Formed
-timeFrom (On ts) = time ts
-timeFrom (Stop f) = formed (Stop f) 0 []
+-- a form behind a rule, which may have stopped
+abbrev pub formFrom : (List Token → Formed) → Step → Formed
+formFrom form (On ts) = form ts
+formFrom form (Stop f) = formed (Stop f) 0 []
 
-abbrev pub oddAt : Went → ℕ → ℕ → FormedCode
-oddAt w place why = record { went = w; value = odd; fault = fault 22 place why }
+abbrev pub timeFrom : Step → Formed
+timeFrom = formFrom time
+
+abbrev pub unformed : Went → FormedCode
+unformed w = record { went = w; value = 0; fault = noFault }
+
+abbrev pub oddAt : Went → ℕ → ℕ → ℕ → FormedCode
+oddAt w number place why = record { went = w; value = odd; fault = fault number place why }

@@ -49,12 +49,12 @@ pub record Formed : Type 0 where
 abbrev pub formed : Step → ℕ → List Fault → Formed
 formed w v ns = record { went = w; value = v; notes = ns }
 
--- a time's value: 1 where it has 22, "a time with 22 is there"; else its ticks and 2
+-- a number's value: 1 where it has a fault, "A time with 22 is there"; else the number, of a time its ticks, and 2
 abbrev pub odd : ℕ
 odd = 1
 
-abbrev pub timed : ℕ → ℕ
-timed ticks = 2 + ticks
+abbrev pub valued : ℕ → ℕ
+valued n = 2 + n
 
 -- what is wrong with a time: it is not whole, its unit is unknown, it has none
 abbrev pub notWhole : ℕ
@@ -70,7 +70,7 @@ unitMissing = 0x312
 unfoldable pub timeOf : Token → ℕ → Step → Formed
 timeOf k places w =
     let s = withBytes tenfold (sum 0 places false true) (k .letters) in
-    cond (s .whole) (formed w (timed (min most (filled tenfold (s .ticks) (s .places)))) []) (formed w odd (fault 22 (k .start) notWhole ∷ []))
+    cond (s .whole) (formed w (valued (min most (filled tenfold (s .ticks) (s .places)))) []) (formed w odd (fault 22 (k .start) notWhole ∷ []))
 
 -- "22 while reading: at the unit, where it is not ms or sec; at the NUMBER, where no NAME follows"
 unfoldable pub time : List Token → Formed

@@ -1,7 +1,10 @@
-// Times: a number and a unit, in whole ticks.
+// Times, a number and a unit in whole ticks; and priorities, a number without a point.
+pub mod priorities; // priorities.rt: priorities
+
 use steps::Fault;
 use steps::NO_FAULT;
 use steps::Went;
+use steps::unfit;
 use tokens::Spot;
 use tokens::spot_at;
 use words::kinds::FIRST_NAME;
@@ -13,7 +16,7 @@ ghost use Rattle.common.specs.Stores.{part};
 ghost use Rattle.tokens.specs.Spots.{tokenOf};
 ghost use Rattle.steps.specs.Lifted.{lift};
 ghost use Rattle.times.specs.Times.{most, withDigit, withByte, filled, timeOf};
-ghost use Rattle.times.specs.Sums.{grown, counted, Forms, timeFrom, oddAt};
+ghost use Rattle.times.specs.Sums.{grown, counted, Forms, timeFrom, oddAt, unformed};
 
 // A number as its bytes are read: the ticks so far, how many more places behind the point are ticks, whether the point came, and whether
 // what follows those places is 0.
@@ -34,7 +37,7 @@ pub struct Formed {
 // A time above this counts as this, which planning refuses.
 const MOST: usize = 1_000_000_000_000;
 
-// The value of a time that is there and has a fault.
+// The value of a number that is there and has a fault.
 pub const ODD: usize = 1;
 
 // What is wrong with a time.
@@ -176,27 +179,15 @@ pub fn time(text: &[u8], went: Went) -> Formed
     ensures { λ r. ⌜ Forms (now (text .entry)) r (timeFrom (lift (now (text .entry)) went)) ⌝ }
 {
     let Went::To(at) = went else {
-        return Formed {
-            went,
-            value: 0,
-            fault: NO_FAULT,
-        };
+        return unformed(went);
     };
     let number = spot_at(text, at);
     if number.kind != NUMBER {
-        return Formed {
-            went: Went::Stopped(Fault {
-                number: 20,
-                place: number.start,
-                why: NUMBER,
-            }),
-            value: 0,
-            fault: NO_FAULT,
-        };
+        return unformed(unfit(number, NUMBER));
     }
     let unit = spot_at(text, number.end);
     if unit.kind < FIRST_NAME {
-        return odd(Went::To(number.end), number.start, UNIT_MISSING);
+        return odd(Went::To(number.end), 22, number.start, UNIT_MISSING);
     }
     if unit.kind == MS {
         return time_of(text, number, 0, Went::To(unit.end));
@@ -204,20 +195,27 @@ pub fn time(text: &[u8], went: Went) -> Formed
     if unit.kind == SEC {
         return time_of(text, number, 3, Went::To(unit.end));
     }
-    odd(Went::To(unit.end), unit.start, UNIT_UNKNOWN)
+    odd(Went::To(unit.end), 22, unit.start, UNIT_UNKNOWN)
 }
 
-// A time that is there and has 22 at a place.
-fn odd(went: Went, place: usize, why: usize) -> Formed
-    ensures { λ r. ⌜ r ≡ oddAt went place why ⌝ }
+// A form that the text does not have.
+fn unformed(went: Went) -> Formed
+    ensures { λ r. ⌜ r ≡ unformed went ⌝ }
+{
+    Formed {
+        went,
+        value: 0,
+        fault: NO_FAULT,
+    }
+}
+
+// A number that is there and has a fault at a place.
+fn odd(went: Went, number: usize, place: usize, why: usize) -> Formed
+    ensures { λ r. ⌜ r ≡ oddAt went number place why ⌝ }
 {
     Formed {
         went,
         value: ODD,
-        fault: Fault {
-            number: 22,
-            place,
-            why,
-        },
+        fault: Fault { number, place, why },
     }
 }

@@ -52,8 +52,8 @@ unfoldable pub firstIn : (ℕ → ℕ) → List ℕ → ℕ
 firstIn has [] = 0
 firstIn has (k ∷ ks) = cond (eqb (has k) 0) (firstIn has ks) (has k)
 
--- "A thread's Period, Deadline, Dispatch_Protocol, Dispatch_Offset .., each: from its block; else from the thread_impl ..; else from the
--- thread_type, then from the type that this one extends"
+-- "A thread's Period, Deadline, Dispatch_Protocol, Dispatch_Offset and Priority, each: from its block; else from the thread_impl ..; else
+-- from the thread_type, then from the type that this one extends"
 abbrev pub given : ℕ → List ℕ
 given zero = []
 given (suc k) = k ∷ []

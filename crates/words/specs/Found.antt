@@ -35,28 +35,28 @@ padded (w ∷ ws) = w ++ (replicate (25 - length w) 0x20 ++ padded ws)
 -- word k is found by its sum, its letters stand in their place, and its kind is its number
 abbrev stands : ℕ → Bool
 stands k =
-    eqb (numberWith (sumOf (wordAt k))) k && (leb (25 * k + length (wordAt k)) 2025
+    eqb (numberWith (sumOf (wordAt k))) k && (leb (25 * k + length (wordAt k)) 2050
     && (same (part (padded listed) (25 * k) (length (wordAt k))) (wordAt k) && eqb (kindOf (wordAt k)) (firstWord + k)))
 
-all-stand : every stands 81 ≡ true
+all-stand : every stands 82 ≡ true
 unfolding every sumBy numberBy padded same wordsBy listed rank kindOf
 all-stand = refl
 
 -- what the test says of word k
 pub record Entry (k : ℕ) : Type 0 where
   pub placed : numberWith (sumOf (wordAt k)) ≡ k
-  pub room : 25 * k + length (wordAt k) ≤ 2025
+  pub room : 25 * k + length (wordAt k) ≤ 2050
   pub written : part (padded listed) (25 * k) (length (wordAt k)) ≡ wordAt k
   pub numbered : kindOf (wordAt k) ≡ firstWord + k
 
-pub entry : (k : ℕ) → k < 81 → Entry k
+pub entry : (k : ℕ) → k < 82 → Entry k
 entry k l =
-    let a = every-at stands 81 k all-stand l in
+    let a = every-at stands 82 k all-stand l in
     let b = and-right (eqb (numberWith (sumOf (wordAt k))) k) _ a in
-    let c = and-right (leb (25 * k + length (wordAt k)) 2025) _ b in
+    let c = and-right (leb (25 * k + length (wordAt k)) 2050) _ b in
     record {
       placed = eqb-true _ _ (and-left (eqb (numberWith (sumOf (wordAt k))) k) _ a);
-      room = leb-true _ _ (and-left (leb (25 * k + length (wordAt k)) 2025) _ b);
+      room = leb-true _ _ (and-left (leb (25 * k + length (wordAt k)) 2050) _ b);
       written = same-eq _ _ (and-left (same (part (padded listed) (25 * k) (length (wordAt k))) (wordAt k)) _ c);
       numbered = eqb-true _ _ (and-right (same (part (padded listed) (25 * k) (length (wordAt k))) (wordAt k)) _ c);
     }
@@ -77,12 +77,12 @@ rank-is (v ∷ vs) k other w = go (same v w) refl (rank-is vs (k + 1) other w)
     go false e (inl r) = inl r
     go false e (inr x) = inr (suc (x .0), omega (arith, x .1), x .2)
 
-listed-length : length listed ≡ 81
+listed-length : length listed ≡ 82
 unfolding wordsBy listed
 listed-length = refl
 
 -- the word at the place of its sum
-pub kind-found : (w : List ℕ) (k : ℕ) → k < 81 → same w (wordAt k) ≡ true → kindOf w ≡ firstWord + k
+pub kind-found : (w : List ℕ) (k : ℕ) → k < 82 → same w (wordAt k) ≡ true → kindOf w ≡ firstWord + k
 kind-found w k l h = ap kindOf (same-eq w (wordAt k) h) ∙ entry k l .numbered
 
 -- another word there, or none

@@ -199,40 +199,43 @@ DISPATCH-PROTOCOL = 0x247
 abbrev pub DISPATCH-OFFSET : ℕ
 DISPATCH-OFFSET = 0x248
 
+abbrev pub PRIORITY : ℕ
+PRIORITY = 0x249
+
 abbrev pub TIMING : ℕ
-TIMING = 0x249
+TIMING = 0x24a
 
 abbrev pub TIMING-PROPERTIES : ℕ
-TIMING-PROPERTIES = 0x24a
+TIMING-PROPERTIES = 0x24b
 
 abbrev pub THREAD-PROPERTIES : ℕ
-THREAD-PROPERTIES = 0x24b
+THREAD-PROPERTIES = 0x24c
 
 abbrev pub COMMUNICATION-PROPERTIES : ℕ
-COMMUNICATION-PROPERTIES = 0x24c
+COMMUNICATION-PROPERTIES = 0x24d
 
 abbrev pub MS : ℕ
-MS = 0x24d
+MS = 0x24e
 
 abbrev pub SEC : ℕ
-SEC = 0x24e
+SEC = 0x24f
 
 abbrev pub PERIODIC : ℕ
-PERIODIC = 0x24f
+PERIODIC = 0x250
 
 abbrev pub DELAYED : ℕ
-DELAYED = 0x250
+DELAYED = 0x251
 
 -- each of them has the number of its word
 pub kinds-are :
     map kindOf (wordsBy [] (letters "abstract access annex applies bus calls connections data device end event extends feature features flows group "
     ++ (letters "implementation in memory modes none out package parameter port private process processor properties property prototypes "
     ++ (letters "provides public requires subcomponents subprogram system thread virtual with period deadline dispatch_protocol "
-    ++ (letters "dispatch_offset timing timing_properties thread_properties communication_properties ms sec periodic delayed")))))
+    ++ (letters "dispatch_offset priority timing timing_properties thread_properties communication_properties ms sec periodic delayed")))))
     ≡ ABSTRACT ∷ ACCESS ∷ ANNEX ∷ APPLIES ∷ BUS ∷ CALLS ∷ CONNECTIONS ∷ DATA ∷ DEVICE ∷ END ∷ EVENT ∷ EXTENDS ∷ FEATURE ∷
     FEATURES ∷ FLOWS ∷ GROUP ∷ IMPLEMENTATION ∷ IN ∷ MEMORY ∷ MODES ∷ NONE ∷ OUT ∷ PACKAGE ∷ PARAMETER ∷ PORT ∷ PRIVATE ∷
     PROCESS ∷ PROCESSOR ∷ PROPERTIES ∷ PROPERTY ∷ PROTOTYPES ∷ PROVIDES ∷ PUBLIC ∷ REQUIRES ∷ SUBCOMPONENTS ∷ SUBPROGRAM ∷
-    SYSTEM ∷ THREAD ∷ VIRTUAL ∷ WITH ∷ PERIOD ∷ DEADLINE ∷ DISPATCH-PROTOCOL ∷ DISPATCH-OFFSET ∷ TIMING ∷ TIMING-PROPERTIES
-    ∷ THREAD-PROPERTIES ∷ COMMUNICATION-PROPERTIES ∷ MS ∷ SEC ∷ PERIODIC ∷ DELAYED ∷ []
+    SYSTEM ∷ THREAD ∷ VIRTUAL ∷ WITH ∷ PERIOD ∷ DEADLINE ∷ DISPATCH-PROTOCOL ∷ DISPATCH-OFFSET ∷ PRIORITY ∷ TIMING ∷
+    TIMING-PROPERTIES ∷ THREAD-PROPERTIES ∷ COMMUNICATION-PROPERTIES ∷ MS ∷ SEC ∷ PERIODIC ∷ DELAYED ∷ []
 unfolding wordsBy same listed rank kindOf
 kinds-are = refl

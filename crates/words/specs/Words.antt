@@ -9,8 +9,8 @@ listed = wordsBy [] (letters "abstract access annex and applies binding bus call
     ++ (letters "end event extends false feature features flow flows group implementation in inherit initial inverse is list memory mode "
     ++ (letters "modes none not of or out package parameter path port private process processor properties property prototypes provides "
     ++ (letters "public range record reference refined renames requires self set subcomponents subprogram system thread to true type "
-    ++ (letters "units virtual with period deadline dispatch_protocol dispatch_offset timing timing_properties thread_properties "
-    ++ letters "communication_properties ms sec periodic delayed")))))
+    ++ (letters "units virtual with period deadline dispatch_protocol dispatch_offset priority timing timing_properties "
+    ++ letters "thread_properties communication_properties ms sec periodic delayed")))))
 
 -- a word's number in a list whose first has the number k
 unfoldable pub rank : List (List ℕ) → ℕ → ℕ → List ℕ → ℕ

@@ -136,20 +136,22 @@ pub const DISPATCH_PROTOCOL: usize = 0x247;
 
 pub const DISPATCH_OFFSET: usize = 0x248;
 
-pub const TIMING: usize = 0x249;
+pub const PRIORITY: usize = 0x249;
 
-pub const TIMING_PROPERTIES: usize = 0x24a;
+pub const TIMING: usize = 0x24a;
 
-pub const THREAD_PROPERTIES: usize = 0x24b;
+pub const TIMING_PROPERTIES: usize = 0x24b;
 
-pub const COMMUNICATION_PROPERTIES: usize = 0x24c;
+pub const THREAD_PROPERTIES: usize = 0x24c;
 
-pub const MS: usize = 0x24d;
+pub const COMMUNICATION_PROPERTIES: usize = 0x24d;
 
-pub const SEC: usize = 0x24e;
+pub const MS: usize = 0x24e;
 
-pub const PERIODIC: usize = 0x24f;
+pub const SEC: usize = 0x24f;
 
-pub const DELAYED: usize = 0x250;
+pub const PERIODIC: usize = 0x250;
+
+pub const DELAYED: usize = 0x251;
 
 pub const NAME: usize = 0x2ff;

@@ -12,7 +12,7 @@ ghost use Rattle.words.specs.Found.{sumOf, wordAt, numberWith};
 // The words, so many bytes for each.
 const WIDTH: usize = 25;
 
-const WORDS: [u8; 2025] = *b"\
+const WORDS: [u8; 2050] = *b"\
     abstract                 access                   annex                    and                      \
     applies                  binding                  bus                      calls                    \
     classifier               compute                  connections              constant                 \
@@ -31,20 +31,20 @@ const WORDS: [u8; 2025] = *b"\
     subprogram               system                   thread                   to                       \
     true                     type                     units                    virtual                  \
     with                     period                   deadline                 dispatch_protocol        \
-    dispatch_offset          timing                   timing_properties        thread_properties        \
-    communication_properties ms                       sec                      periodic                 \
-    delayed                  ";
+    dispatch_offset          priority                 timing                   timing_properties        \
+    thread_properties        communication_properties ms                       sec                      \
+    periodic                 delayed                  ";
 
 // How many letters each has: `a` says one, `b` two.
-const LENGTHS: [u8; 81] =
-    *b"hfecggcejgkhdefcegeghdeenbgggbdfdedcbbcgiddggijhjhfefigghdcmjffbddegdfhqofqqxbchg";
+const LENGTHS: [u8; 82] =
+    *b"hfecggcejgkhdefcegeghdeenbgggbdfdedcbbcgiddggijhjhfefigghdcmjffbddegdfhqohfqqxbchg";
 
 // The number of the word that has a sum: `#` says 0, the next byte 1, and so on. It says 0 also where no word has the sum.
 const PLACES: [u8; 385] = *b"\
-    #_#####S###########X>#####p#k#####U###a#:######E####c#############6J####,=##j########1#*rQ#2#+###\
+    #_#####S###########X>#####q#k#####U###a#:######E####c#############6J####,=##j########1#*sQ#2#+###\
     ####M#Af####d###/K######)##############4##Y########^#F#####e##h`#i#$####g########'##9#T##R##PI###\
-    ########N#5####8#####<####@##C############(####%########V#####;###b###########D#Z################\
-    B#########G###\\#&##s##H##O####n##.#m#o###################q########?####-L#]##0#3##l[W###7#####";
+    ########N#5####8#####<####@##C############(####%#######lV#####;###b###########D#Z################\
+    B#########G###\\#&##t##H##O####o##.#n#p###################r########?####-L#]##0#3##m[W###7#####";
 
 // The sum over the letters from `start` to `end`. No two words of the list have the same.
 fn sum_of(text: &[u8], start: usize, end: usize) -> usize
@@ -88,14 +88,14 @@ pub fn alike(a: &[u8], p: usize, b: &[u8], q: usize, n: usize) -> bool
 // The number of the word that has a sum.
 fn number_with(sum: usize) -> usize
     requires { ⌜ sum < 385 ⌝ }
-    ensures { λ r. ⌜ (r ≡ numberWith sum) × (r < 81) ⌝ }
+    ensures { λ r. ⌜ (r ≡ numberWith sum) × (r < 82) ⌝ }
 {
     wide(PLACES[sum]) - 35
 }
 
 // How many letters a word of the list has.
 fn length_of(k: usize) -> usize
-    requires { ⌜ k < 81 ⌝ }
+    requires { ⌜ k < 82 ⌝ }
     ensures { λ r. ⌜ r ≡ length (wordAt k) ⌝ }
 {
     wide(LENGTHS[k]) - 96
@@ -103,7 +103,7 @@ fn length_of(k: usize) -> usize
 
 // Whether `n` bytes from a place on are a word of the list that has as many.
 fn is_word(text: &[u8], start: usize, k: usize, n: usize) -> bool
-    requires { ⌜ (k < 81) × (n ≡ length (wordAt k)) × (start + n ≤ length (now text)) ⌝ }
+    requires { ⌜ (k < 82) × (n ≡ length (wordAt k)) × (start + n ≤ length (now text)) ⌝ }
     ensures { λ r. ⌜ r ≡ same (part (now (text .entry)) start n) (wordAt k) ⌝ }
 {
     alike(text, start, &WORDS, WIDTH * k, n)

@@ -21,7 +21,7 @@ returns c =
       g .before .symbol .ensures,
       g .before .before .scoped .ensures,
     )
-    (owned-first (a .property) (stateOf (a .text .now) (a .reading) m) (k .pre .1) (c .before .if1 .taken))
+    (owned-first (a .property) (stateOf (a .text .now) (a .reading) m) (k .pre .1) (search needs))
 
 returns-2 : tie.Need-returns-2
 returns-2 c =
@@ -41,7 +41,7 @@ returns-2 c =
       g .before .symbol .ensures,
       g .before .before .scoped .ensures,
     )
-    (owned-second (a .property) (stateOf (a .text .now) (a .reading) m) (k .pre .1) (h .if1 .left))
+    (owned-second (a .property) (stateOf (a .text .now) (a .reading) m) (k .pre .1) (search needs))
 
 pub owned-spec : {M : Type 1} → statement M
 owned-spec =

@@ -8,4 +8,4 @@ use Rattle.properties.proofs.set_of.Tie as tie
 pub set-of-spec : {M : Type 1} → statement M
 unfolding setOf
 set-of-spec =
-    tie.close (tie.spec (λ c. search tests) (λ c. search tests) (λ c. search tests))
+    tie.close (tie.spec (λ c. search tests) (λ c. search tests) (λ c. search tests) (λ c. search tests))

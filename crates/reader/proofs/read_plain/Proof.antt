@@ -1,5 +1,5 @@
 -- `reader::read_plain`.
-use Rattle.common.specs.Words.{needs, arith, _≤_, _∙_, length}
+use Rattle.common.specs.Words.{needs, _∙_, length}
 use Rattle.reader.specs.Reader.{mostBytes}
 use Rattle.reader.specs.Laws.{fitting-read, fitting-plain, read-answer}
 use Rattle.reader.proofs.read_plain.Statement.{statement}
@@ -20,14 +20,10 @@ returns c =
     let d = e .before .before .before .before .before .before .before .before in
     let s = d .before .before .before .before .before .before .before .before in
     let a = s .args in
-    let l : length (a .text .now) ≤ length (a .rows .now) =
-    omega (
-      arith,
-      s .pre .0,
-      fitting-plain mostBytes (length (a .rows .now)) (length (a .declared .now)) (length (a .connected .now))
-          (length (a .queued .now)) (length (a .types .now)) (s .pre .1) .1,
-    ) in
-    e .answer-read .ensures ∙ read-answer (a .text .now) (d .read .result) (a .rows .now) (d .read .last .1 .0) (a .long) (d .read .ensures) l
+    let room = fitting-plain mostBytes (length (a .rows .now)) (length (a .declared .now)) (length (a .connected .now))
+    (length (a .queued .now)) (length (a .types .now)) (s .pre .1) .1 in
+    e .answer-read .ensures
+    ∙ read-answer (a .text .now) (d .read .result) (a .rows .now) (d .read .last .1 .0) (a .long) (d .read .ensures) (s .pre .0) room
 
 pub read-plain-spec : {M : Type 1} → statement M
 read-plain-spec =

@@ -7,15 +7,15 @@ use Rattle.rows.proofs.keep.Statement.{statement}
 use Rattle.rows.proofs.keep.Tie as tie
 
 abbrev Inv-loop : tie.InvT-loop
-Inv-loop rows₀ count row at k₀ rows k = (k ≤ 9) × (length rows ≡ length rows₀)
-    × (rows ≡ sets rows₀ at (take k row)) × (at ≡ 9 * count)
+Inv-loop rows₀ count row at k₀ rows k = (k ≤ 10) × (length rows ≡ length rows₀)
+    × (rows ≡ sets rows₀ at (take k row)) × (at ≡ 10 * count)
 
 abbrev μ-loop : tie.MeasureT-loop
-μ-loop rows₀ count row at k₀ rows k = 9 - k
+μ-loop rows₀ count row at k₀ rows k = 10 - k
 
 returns : tie.Need-returns Inv-loop μ-loop
 unfolding withRow
-returns c = let a = c .before .args in rw (lt-leb (9 * a .count + 9) (length (a .rows .now)) (search needs))
+returns c = let a = c .before .args in rw (lt-leb (10 * a .count + 10) (length (a .rows .now)) (search needs))
 
 loop-holds : tie.Need-loop-holds Inv-loop μ-loop
 unfolding withRow
@@ -28,7 +28,7 @@ loop-again c =
     let a = l .before .before .args in (
       search needs,
       simp length-set (l .loop .inv .1),
-      rw (l .loop .inv .2) (sets-more (a .rows .now) (a .t3) (9 * a .count) (l .loop .k) (search needs)),
+      rw (l .loop .inv .2) (sets-more (a .rows .now) (a .t3) (10 * a .count) (l .loop .k) (search needs)),
       refl,
     )
 
@@ -42,9 +42,9 @@ unfolding withRow
 returns-2 c =
     let l = c .before in
     let a = l .before .before .args in
-    let e : l .loop .k ≡ 9 = search needs in
-    let w : take 9 (a .t3) ≡ a .t3 = take-all 9 (a .t3) (search needs) in
-    rw (le-leb (9 * a .count + 9) (length (a .rows .now)) (search needs), l .loop .inv .2, e, w)
+    let e : l .loop .k ≡ 10 = search needs in
+    let w : take 10 (a .t3) ≡ a .t3 = take-all 10 (a .t3) (search needs) in
+    rw (le-leb (10 * a .count + 10) (length (a .rows .now)) (search needs), l .loop .inv .2, e, w)
 
 pub keep-spec : {M : Type 1} → statement M
 unfolding withRow

@@ -7,10 +7,10 @@ use Rattle.rows.proofs.merged.Statement.{statement}
 use Rattle.rows.proofs.merged.Tie as tie
 
 abbrev Inv-loop : tie.InvT-loop
-Inv-loop a b out₀ q₀ out q = (q ≤ 5) × (length out ≡ 5) × (take q out ≡ table (λ (i : ℕ). firstOf (getD a i 0) (getD b i 0)) q)
+Inv-loop a b out₀ q₀ out q = (q ≤ 6) × (length out ≡ 6) × (take q out ≡ table (λ (i : ℕ). firstOf (getD a i 0) (getD b i 0)) q)
 
 abbrev μ-loop : tie.MeasureT-loop
-μ-loop a b out₀ q₀ out q = 5 - q
+μ-loop a b out₀ q₀ out q = 6 - q
 
 loop-holds : tie.Need-loop-holds Inv-loop μ-loop
 unfolding merged
@@ -28,7 +28,7 @@ loop-again c =
 
 returns : tie.Need-returns Inv-loop μ-loop
 unfolding merged
-returns c = let l = c .before in let e : l .loop .q ≡ 5 = search needs in table-all _ (l .loop .out) 5 (l .loop .inv .1) (rw e at (l .loop .inv .2))
+returns c = let l = c .before in let e : l .loop .q ≡ 6 = search needs in table-all _ (l .loop .out) 6 (l .loop .inv .1) (rw e at (l .loop .inv .2))
 
 pub merged-spec : {M : Type 1} → statement M
 unfolding merged

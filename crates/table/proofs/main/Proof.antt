@@ -16,7 +16,7 @@ main-spec =
     (λ c. c .before .read-full .ensures .0)
     (λ c. c .before .before .read-full .ensures .1)
     (λ c. zeros 262144)
-    (λ c. zeros 262144)
+    (λ c. zeros 291270)
     (λ c. zeros 58256)
     (λ c. zeros 58256)
     (λ c. zeros 58256)

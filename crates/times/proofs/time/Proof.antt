@@ -1,19 +1,21 @@
 -- `times::time`: no number, no unit, a unit that is known, and one that is not.
-use Rattle.common.specs.Words.{needs, refl, arith}
-use Rattle.steps.specs.Faults.{worst}
-use Rattle.times.specs.Laws.{time-unfit, time-missing, time-ms, time-sec, time-unknown}
+use Rattle.common.specs.Words.{needs, arith}
+use Rattle.times.specs.Times.{time}
+use Rattle.times.specs.Laws.{stopped-before, time-unfit, time-missing, time-ms, time-sec, time-unknown}
 use Rattle.times.proofs.time.Statement.{statement}
 use Rattle.times.proofs.time.Tie as tie
 
 returns : tie.Need-returns
-unfolding worst
-returns c = rw (c .enum-told .given .1) (record { went = refl; value = refl; fault = refl })
+returns c =
+    let a = c .before .before .before .before .args in
+    rw (c .unformed .ensures) (stopped-before (a .text .now) time (a .went) _ (c .before .enum-told .given .1))
 
 returns-2 : tie.Need-returns-2
 returns-2 c =
-    let k = c .before .before in
+    let k = c .before .before .before .before in
     let p = k .before .before .before .before .before .args .text .now in
-    rw (k .before .before .went .given .1) (time-unfit p _ (k .spot-at .result) (k .spot-at .ensures) (c .if1 .taken))
+    rw (k .before .before .went .given .1, c .unformed2 .ensures, c .before .unfit .ensures)
+    (time-unfit p _ (k .spot-at .result) (k .spot-at .ensures) (c .before .before .if1 .taken))
 
 returns-3 : tie.Need-returns-3
 returns-3 c =
@@ -69,6 +71,7 @@ returns-6 c =
 pub time-spec : {M : Type 1} → statement M
 time-spec =
     tie.close
-    (tie.spec (λ c. search needs) (λ c. search needs) returns (λ c κs. search needs) returns-2
+    (tie.spec (λ c. search needs) (λ c. search needs) (λ c κs. search needs) returns (λ c κs. search needs) (λ c κs. search needs)
+    (λ c κs. search needs) returns-2
     (λ c κs. search needs) (λ c κs. search needs) returns-3
     time-of-requires returns-4 time-of-requires-2 returns-5 (λ c κs. search needs) returns-6)

@@ -8,17 +8,17 @@ use Rattle.words.specs.Found.{sumBy, numberBy, numberWith}
 use Rattle.words.proofs.number_with.Statement.{statement}
 use Rattle.words.proofs.number_with.Tie as tie
 
-all-low : every (λ s. ltb (numberWith s) 81) 385 ≡ true
+all-low : every (λ s. ltb (numberWith s) 82) 385 ≡ true
 unfolding every sumBy numberBy wordsBy listed
 all-low = refl
 
-low : (s : ℕ) → s < 385 → numberWith s < 81
-low s l = ltb-true (numberWith s) 81 (every-at (λ s. ltb (numberWith s) 81) 385 s all-low l)
+low : (s : ℕ) → s < 385 → numberWith s < 82
+low s l = ltb-true (numberWith s) 82 (every-at (λ s. ltb (numberWith s) 82) 385 s all-low l)
 
 over : (r n : ℕ) → r ≡ 35 + n → 35 ≤ r
 over r n e = omega arith
 
-less : (r n : ℕ) → r ≡ 35 + n → n < 81 → (r - 35 ≡ n) × (r - 35 < 81)
+less : (r n : ℕ) → r ≡ 35 + n → n < 82 → (r - 35 ≡ n) × (r - 35 < 82)
 less r n e l = (omega arith, omega arith)
 
 sub-result : tie.Need-sub-result

@@ -6,11 +6,11 @@ use Rattle.listing.proofs.lines.put_tasks.Statement.{statement}
 use Rattle.listing.proofs.lines.put_tasks.Tie as tie
 
 abbrev Inv-loop : tie.InvT-loop
-Inv-loop out₀ tasks period deadline i₀ out i =
-    (i ≤ tasks) × (length out ≡ length out₀) × (out ≡ sets out₀ 0 (eachTask period deadline i))
+Inv-loop out₀ tasks period deadline priority i₀ out i =
+    (i ≤ tasks) × (length out ≡ length out₀) × (out ≡ sets out₀ 0 (eachTask period deadline priority i))
 
 abbrev μ-loop : tie.MeasureT-loop
-μ-loop out₀ tasks period deadline i₀ out i = tasks - i
+μ-loop out₀ tasks period deadline priority i₀ out i = tasks - i
 
 loop-again : tie.Need-loop-again Inv-loop μ-loop
 loop-again c =
@@ -18,7 +18,7 @@ loop-again c =
     let l = p .before .before .before .loop in
     let a = p .before .before .before .before .before .args in
     let e = p .put-task .ensures in
-    (search needs, ap length e ∙ simp length-sets (l .inv .1), e ∙ rw (l .inv .2) (tasks-more (a .t3) (a .t4) (a .out .now) (l .i)))
+    (search needs, ap length e ∙ simp length-sets (l .inv .1), e ∙ rw (l .inv .2) (tasks-more (a .t3) (a .t4) (a .t5) (a .out .now) (l .i)))
 
 returns : tie.Need-returns Inv-loop μ-loop
 returns c =
@@ -32,7 +32,8 @@ put-tasks-spec =
     (tie.spec
     Inv-loop
     μ-loop
-    (λ c. (search needs, refl, no-tasks _ _ _))
+    (λ c. (search needs, refl, no-tasks _ _ _ _))
+    (λ c. search needs)
     (λ c. search needs)
     (λ c. search needs)
     (λ c. search needs)

@@ -1,15 +1,16 @@
--- `kit::times` fills its array from the front.
+-- `kit::figures` fills its array from the front.
 use Rattle.common.specs.Words.{needs, _-_, _≤_, _≡_, length, take}
 use Rattle.common.specs.Table.{table, table-none, table-more, table-all}
 use Rattle.index.specs.Index.{rowsIn}
 use Rattle.chosen.specs.Chosen.{threadsOf, atOr}
-use Rattle.kit.specs.Kit.{timeOf}
-use Rattle.kit.proofs.times.Statement.{statement}
-use Rattle.kit.proofs.times.Tie as tie
+use Rattle.kit.specs.Kit.{figureOf}
+use Rattle.kit.proofs.figures.Statement.{statement}
+use Rattle.kit.proofs.figures.Tie as tie
 
 abbrev Inv-loop : tie.InvT-loop
 Inv-loop text rows declared types count threads c out₀ i₀ out i =
-    (i ≤ 16) × (length out ≡ 16) × (take i out ≡ table (atOr (threadsOf (rowsIn count rows)) (timeOf text (rowsIn count rows) c) 0) i)
+    (i ≤ 16) × (length out ≡ 16)
+    × (take i out ≡ table (atOr (threadsOf (rowsIn count rows)) (figureOf text (rowsIn count rows) c) 0) i)
 
 abbrev μ-loop : tie.MeasureT-loop
 μ-loop text rows declared types count threads c out₀ i₀ out i = 16 - i
@@ -17,7 +18,7 @@ abbrev μ-loop : tie.MeasureT-loop
 loop-again : tie.Need-loop-again Inv-loop μ-loop
 loop-again c =
     let l = c .before .before .loop in
-    (search needs, search needs, rw (c .time-at .ensures) (table-more _ (l .out) (l .i) (search needs) (l .inv .2)))
+    (search needs, search needs, rw (c .figure-at .ensures) (table-more _ (l .out) (l .i) (search needs) (l .inv .2)))
 
 returns : tie.Need-returns Inv-loop μ-loop
 returns c =
@@ -25,8 +26,8 @@ returns c =
     let e : l .i ≡ 16 = search needs in
     table-all _ (l .out) 16 (l .inv .1) (rw e at (l .inv .2))
 
-pub times-spec : {M : Type 1} → statement M
-times-spec =
+pub figures-spec : {M : Type 1} → statement M
+figures-spec =
     tie.close
     (tie.spec Inv-loop μ-loop (λ c. search (needs, table-none)) (λ c κs. search needs) (λ c. search needs)
     (λ c. search needs) (λ c. search needs) (λ c. search needs) loop-again returns)
