@@ -75,8 +75,8 @@ unfolding table sumBy numberBy padded wordsBy same listed rank kindOf lower two 
     path paths annex direction portKind linkKind place arrow nothing sectionKind skipKind skipped label maybeLabel maybeClassifier wordAndRest
     processRow typeRow implementationRow portRow threadRow linkRow optionally repeatBy repeat merged apart adding withByte withBytes filled timeOf
     time priorityOf priority namedBy setOf propertyBy propertyAt readIn rightBy form owned noteIn skippedIn associationIn associationsIn blockIn
-    maybeBlockIn noneOr propertiesIn directionOf portHead port otherFeature featureOf feature features typeIn implementationIn threadOf thread otherComponent
-    subcomponentOf subcomponent subcomponents ends timingBy declared link otherKind connectionOf labelIn connection connectionKind connections
+    maybeBlockIn noneOr propertiesIn directionOf portHead port otherFeature featureOf feature features typeIn implementationIn threadOf thread
+    otherComponent subcomponentOf subcomponent subcomponents ends timingBy declared link otherKind connectionOf labelIn connection connectionKind connections
     maybeExtends typeHead typeEnd threadType implementationHead implementationEnd implementation threadImplementation processImplementation listKind
     allowed listIn propertiesOf section sections outsideKind reaching waitingAfter notedAt lastKind passing pathEnd other declarationKind threadBy
     chosen declaration noneOrSome clauseKind clause part parts packaged pieceKind piece pieces finished wholeText spelled meant sameMeaning turned
