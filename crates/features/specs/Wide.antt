@@ -21,7 +21,8 @@ port-wide o n ps ts =
 
 feature-of-wide : (o n : ℕ) → WideOn (featureOf o n)
 unfolding featureOf
-feature-of-wide o n ps ts = cases (Wide ps) (otherFeature (next ts)) (λ _. wide-silent _ refl (λ l. l)) (λ _. wide-apart (port o n) (port-wide o n) ps ts)
+feature-of-wide o n ps ts =
+    cases (Wide ps) (otherFeature (next ts)) (λ _. wide-silent _ refl (λ l. l)) (λ _. wide-apart (port o n) (port-wide o n) ps ts)
 
 feature-wide : (o : ℕ) → WideOn (feature o)
 unfolding feature

@@ -24,7 +24,8 @@ link-wide p start n ps ts =
 connection-of-wide : (p start n : ℕ) → WideOn (connectionOf p start n)
 unfolding connectionOf
 connection-of-wide p start n ps ts =
-    cases (Wide ps) (otherKind (next ts) (second ts)) (λ _. wide-silent _ refl (λ l. l)) (λ _. wide-apart (link p start n) (link-wide p start n) ps ts)
+    cases (Wide ps) (otherKind (next ts) (second ts)) (λ _. wide-silent _ refl (λ l. l))
+    (λ _. wide-apart (link p start n) (link-wide p start n) ps ts)
 
 connection-wide : (p : ℕ) → WideOn (connection p)
 unfolding connection
