@@ -17,7 +17,7 @@ sys.dont_write_bytecode = True
 from sources import base, cited_files, public_functions, read, rows, section, without_comment
 
 LIST = '## What a reader has to believe'
-ABOVE = {'logs', 'blocks', 'mulchpenny'}  # what stands on the base, and adds no call to it
+ABOVE = {'priorities', 'logs', 'blocks', 'mulchpenny'}  # what stands on the base, and adds no call to it
 WORDS = set('λ → × ¬ ⊥ let in rw at omega search cc record where Type unfolding absurd elim = : | ↦ _'.split())
 USE = re.compile(r'^(unfoldable |pub |ghost )*use (\S+?)(?:\.\{(.*)\}| as (\w+))?;?$')
 OURS = re.compile(r'Rattle·(\w+?)(?:·specs)?\.specs\.(\w+)$')
@@ -193,14 +193,14 @@ def to_read(path):
 def part_of(path, of_base):
     crate = path.split('/')[1]
     if crate in ABOVE:
-        return 'a saved log, and the program'
+        return 'sorted rows, a saved log, and the program'
     return 'the base' if crate in of_base else 'the reader of AADL texts'
 
 
 def parts(found):
     """The parts of the list, the base first: a name, the files of definitions, and the lines of each statement."""
     of_base = base()
-    for label in ('the base', 'a saved log, and the program', 'the reader of AADL texts'):
+    for label in ('the base', 'sorted rows, a saved log, and the program', 'the reader of AADL texts'):
         files = [path for path in found.definitions if part_of(path, of_base) == label]
         yield label, files, [lines for (path, _), lines in found.statements.items() if part_of(path, of_base) == label]
 

@@ -5,6 +5,5 @@ pub mod Tests
 pub mod Totals
 pub mod Rows
 pub mod Rank
-pub mod Permutation
 pub mod Table
 pub mod Stores

@@ -96,7 +96,8 @@ pub fn sender_at<'a>(
 ) -> usize
     requires { ⌜ Lent (now sends) (now period) (now deadline) tasks queue × (at .0 ≤ lastTick) ⌝ }
     ensures { λ r. ⌜ r ≡ firstBad (λ i. not (sentBy
-        (orderedAt (now (sends .entry)) (now (period .entry)) (now (deadline .entry)) (now (priority .entry)) tasks queue) (at .0) (n .0) i)) tasks ⌝ }
+        (orderedAt (now (sends .entry)) (now (period .entry)) (now (deadline .entry)) (now (priority .entry)) tasks queue)
+        (at .0) (n .0) i)) tasks ⌝ }
 {
     for row in 0..tasks {
         if sent_by(sends, period, deadline, priority, tasks, queue, n, at, row) {

@@ -43,7 +43,8 @@ three-at a b c out o p q out′ i j k l e f g h x y z =
 -- and of four
 pub four-at : (a b c d out o p q r out′ : List ℕ) (i j k l m : ℕ) →
     o ≡ sets out i (digits a) → p ≡ sets o j (digits b) → q ≡ sets p k (digits c) → r ≡ sets q l (digits d) →
-    out′ ≡ sets r m (10 ∷ []) → i + 2 * length a ≡ j → j + 2 * length b ≡ k → k + 2 * length c ≡ l → l + 2 * length d ≡ m →
+    out′ ≡ sets r m (10 ∷ []) →
+    i + 2 * length a ≡ j → j + 2 * length b ≡ k → k + 2 * length c ≡ l → l + 2 * length d ≡ m →
     out′ ≡ sets out i (lineOf (a ++ (b ++ (c ++ d))))
 four-at a b c d out o p q r out′ i j k l m e f g h n x y z w =
     rw (← append-assoc a b (c ++ d))

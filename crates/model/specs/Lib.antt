@@ -13,8 +13,6 @@ pub mod Gcd
 pub mod Multiple
 pub mod Later
 pub mod Slots
-pub mod Permuted
-pub mod Priority
 pub mod Equation3
 pub mod Checks
 pub mod Worked

@@ -1,7 +1,6 @@
--- The periodic-delayed model, after source 000 (Cadoret and others), sections II and III, as document 01 words it: a message's number, its
--- window, its slots, each under the sentence or equation that it writes down. There are definitions only, and all of them compute.
--- Ticks, jobs and slots count from 0, message numbers from 1. A message is two numbers: its sender's row i and its job k.
--- Three rules stand alone, because requests will change them: `hasDeadline`, `precedes` and `wantedFor`.
+-- The periodic-delayed model, after source 000 (Cadoret and others), sections II and III, as document 01 words it. There are definitions
+-- only, each under its sentence or equation, and all of them compute. Ticks, jobs and slots count from 0, message numbers from 1; a message
+-- is its sender's row i and its job k. Three rules stand alone, because requests change them: `hasDeadline`, `precedes`, `wantedFor`.
 use Rattle.common.specs.Words.{ℕ, zero, suc, _+_, _-_, _*_, _/_, _%_, _<_, _≤_, Bool, true, cond, not, _&&_, _≡_, leb, ltb, eqb}
 use Rattle.common.specs.Terms.{only, sum, most, firstBad}
 unfoldable pub use Rattle.common.specs.Terms.{euclid, gcd, lcm}

@@ -10,6 +10,10 @@ abbrev pub Before : Queue → ℕ → ℕ → ℕ → ℕ → Type 0
 Before q i k j l =
     (deadlineOf q i k < deadlineOf q j l) ⊎ ((deadlineOf q i k ≡ deadlineOf q j l) × (precedes q i j ≡ true))
 
+-- Request b, in words: row i has the higher priority, or an equal one and the lower row (law `prec-iff`).
+abbrev pub Ahead : Queue → ℕ → ℕ → Type 0
+Ahead q i j = (q .priority j < q .priority i) ⊎ ((q .priority i ≡ q .priority j) × (i < j))
+
 -- "The number is the count of messages of that queue strictly before, plus one": row j's messages before (i, k) are its jobs below this
 -- bound (law `before-iff`), and the number is one more than the sum of the bounds (law `number-counts`).
 unfoldable pub jobsBefore : Queue → ℕ → ℕ → ℕ → ℕ

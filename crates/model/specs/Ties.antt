@@ -1,9 +1,10 @@
 -- The rule for equal deadlines: what it says (`prec-higher`, `prec-equal`, `prec-iff`), and that it is a strict total order of the rows.
 -- `precedes` is known outside only by the laws here. Another rule proves those down to `prec-total` again, and nothing else.
-use Rattle.common.specs.Words.{ℕ, ℕ-discrete, _<_, _≤_, arith, true, false, _⊎_, inl, inr, _↔_, ⊎-elim, _≡_, refl, sym, subst, _∙_}
+use Rattle.common.specs.Words.{ℕ, ℕ-discrete, _<_, _≤_, arith, true, false, inl, inr, _↔_, ⊎-elim, _≡_, refl, sym, subst, _∙_}
 use Rattle.common.specs.Words.{ltb, ltb-true, ltb-false, lt-ltb, le-ltb, eq-eqb, ne-eqb}
 use Rattle.common.specs.Tests.{true-or-false, clash}
 use Rattle.model.specs.Model.{Queue, precedes}
+use Rattle.model.specs.Source.{Ahead}
 
 -- "the higher goes first,
 pub prec-higher : (q : Queue) (i j : ℕ) → (q .priority i ≡ q .priority j → ⊥) → precedes q i j ≡ ltb (q .priority j) (q .priority i)
@@ -14,10 +15,6 @@ prec-higher q i j d = rw (ne-eqb (q .priority i) (q .priority j) d)
 pub prec-equal : (q : Queue) (i j : ℕ) → q .priority i ≡ q .priority j → precedes q i j ≡ ltb i j
 unfolding precedes
 prec-equal q i j e = rw (eq-eqb (q .priority i) (q .priority j) e)
-
--- Row i has the higher priority, or an equal one and the lower row.
-abbrev pub Ahead : Queue → ℕ → ℕ → Type 0
-Ahead q i j = (q .priority j < q .priority i) ⊎ ((q .priority i ≡ q .priority j) × (i < j))
 
 pub prec-iff : (q : Queue) (i j : ℕ) → (precedes q i j ≡ true) ↔ Ahead q i j
 prec-iff q i j =

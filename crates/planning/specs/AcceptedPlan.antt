@@ -159,7 +159,8 @@ module _ (tasks queues : ℕ) (period deadline priority receiver : List ℕ) (sq
 
   module _ (yes : planOf tasks queues period deadline priority receiver square .answer ≡ Answer.Accepted) where
     -- an accepted plan holds the table with the least sizes and their places
-    pub accepted-is : planOf tasks queues period deadline priority receiver square .plan ≡ sized (tabled tasks queues period deadline priority receiver square)
+    pub accepted-is : planOf tasks queues period deadline priority receiver square .plan
+        ≡ sized (tabled tasks queues period deadline priority receiver square)
     accepted-is = passes yes .plan-is
 
     pub accepted-made : Made (planOf tasks queues period deadline priority receiver square .plan)

@@ -7,5 +7,6 @@ abbrev pub PlanGives : ℕ → ℕ → List ℕ → List ℕ → List ℕ → Li
 PlanGives tasks queues period deadline priority receiver square r = r ≡ planOf tasks queues period deadline priority receiver square
 
 pub make-plan-unique : (tasks queues : ℕ) (period deadline priority receiver : List ℕ) (square : List (List Bool)) (r s : Planned) →
-    PlanGives tasks queues period deadline priority receiver square r → PlanGives tasks queues period deadline priority receiver square s → r ≡ s
+    PlanGives tasks queues period deadline priority receiver square r → PlanGives tasks queues period deadline priority receiver square s →
+    r ≡ s
 make-plan-unique tasks queues period deadline priority receiver square r s a b = a ∙ sym b

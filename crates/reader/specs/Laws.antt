@@ -102,8 +102,8 @@ module _ (p : List ℕ) (r : Reading) (m n : List ℕ) (e : ended p r m n) where
     read-size = read-held .size
 
 -- the answer of a plain text, as the code comes to it
-pub read-answer : (p : List ℕ) (r : Reading) (m n : List ℕ) (long : Bool) → ended p r m n →
-    length p ≤ mostBytes → rowsRoom ≤ length m → answerRead p n r long ≡ answerPlain p long
+pub read-answer : (p : List ℕ) (r : Reading) (m n : List ℕ) (long : Bool) → ended p r m n → length p ≤ mostBytes →
+    rowsRoom ≤ length m → answerRead p n r long ≡ answerPlain p long
 unfolding answerRead answerPlain faultsIn
 read-answer p r m n long e l h =
     let s = readFrom p in

@@ -74,15 +74,15 @@ unfolding table sumBy numberBy padded wordsBy same listed rank kindOf lower two 
     valuesBy listBy recordBy partBy partOf value values scoped assigns association associations block restKind rest scopes dotted classifier joinKind
     path paths annex direction portKind linkKind place arrow nothing sectionKind skipKind skipped label maybeLabel maybeClassifier wordAndRest
     processRow typeRow implementationRow portRow threadRow linkRow optionally repeatBy repeat merged apart adding withByte withBytes filled timeOf
-    time namedBy setOf propertyBy propertyAt readIn rightBy form owned noteIn skippedIn associationIn associationsIn blockIn maybeBlockIn noneOr
-    propertiesIn directionOf portHead port otherFeature featureOf feature features typeIn implementationIn threadOf thread otherComponent
-    subcomponentOf subcomponent subcomponents ends timingBy declared link otherKind connectionOf labelIn connection connectionKind connections
-    maybeExtends typeHead typeEnd threadType implementationHead implementationEnd implementation threadImplementation processImplementation listKind
-    allowed listIn propertiesOf section sections outsideKind reaching waitingAfter notedAt lastKind passing pathEnd other declarationKind threadBy
-    chosen declaration noneOrSome clauseKind clause part parts packaged pieceKind piece pieces finished wholeText spelled meant sameMeaning turned
-    stirred named lanesOf hashOf nameByte found rowsIn declaredKey keyBy keysOf typeNamed implementationOf wayBy way firstIn propertyOf portOf endsOf
-    againFaults threadFaults outFaults inFaults twiceFaults joinFaults endFaults linkFaults rowFaults faultsBelow processFaults judged chosenBelow
-    threadsOf queuesOf position receiverOf joins tableOf readFrom faultsIn faultsOf ruleOf answerBy answerPlain readOf priorityOf priority
-    Rattle.declarations.specs.Sections.listed Rattle.others.specs.Others.otherKind
-    Rattle.texts.specs.Texts.partKind Rattle.ways.specs.Ways.ends Rattle.kit.specs.Kit.figureOf
+    time priorityOf priority namedBy setOf propertyBy propertyAt readIn rightBy form owned noteIn skippedIn associationIn associationsIn blockIn
+    maybeBlockIn noneOr propertiesIn directionOf portHead port otherFeature featureOf feature features typeIn implementationIn threadOf thread
+    otherComponent subcomponentOf subcomponent subcomponents ends timingBy declared link otherKind connectionOf labelIn connection connectionKind
+    connections maybeExtends typeHead typeEnd threadType implementationHead implementationEnd implementation threadImplementation
+    processImplementation listKind allowed listIn propertiesOf section sections outsideKind reaching waitingAfter notedAt lastKind passing pathEnd
+    other declarationKind threadBy chosen declaration noneOrSome clauseKind clause part parts packaged pieceKind piece pieces finished wholeText
+    spelled meant sameMeaning turned stirred named lanesOf hashOf nameByte found rowsIn declaredKey keyBy keysOf typeNamed implementationOf wayBy
+    way firstIn propertyOf portOf endsOf againFaults threadFaults outFaults inFaults twiceFaults joinFaults endFaults linkFaults rowFaults
+    faultsBelow processFaults judged chosenBelow threadsOf queuesOf position receiverOf joins tableOf readFrom faultsIn faultsOf ruleOf answerBy
+    answerPlain readOf Rattle.declarations.specs.Sections.listed Rattle.others.specs.Others.otherKind Rattle.texts.specs.Texts.partKind
+    Rattle.ways.specs.Ways.ends Rattle.kit.specs.Kit.figureOf
 listing-1-is-table-a = refl

@@ -90,7 +90,8 @@ fn need_of<'a>(
         × (deadlineOf (orderedAt (now sends) (now period) (now deadline) (now priority) tasks queue) task (job .0) ≤ lastTick)
         × (outdated ≤ numberFor (orderedAt (now sends) (now period) (now deadline) (now priority) tasks queue) task (job .0)) ⌝ }
     ensures { λ r. ⌜ r ≡ only on
-        (numberFor (orderedAt (now (sends .entry)) (now (period .entry)) (now (deadline .entry)) (now (priority .entry)) tasks queue) task (job .0) - outdated) ⌝ }
+        (numberFor (orderedAt (now (sends .entry)) (now (period .entry)) (now (deadline .entry)) (now (priority .entry)) tasks queue)
+        task (job .0) - outdated) ⌝ }
 {
     if !on {
         return 0;
@@ -132,7 +133,8 @@ fn row_slots<'a>(
         × (1 ≤ chart) × (chart ≤ longestPeriod) × (wanted ≤ longestPeriod)
         × Sender (orderedAt (now sends) (now period) (now deadline) (now priority) tasks queue) task
         × (getD (now period) task 0 ≤ longestPeriod) × (ticks ≤ longestHyperperiod) ⌝ }
-    ensures { λ r. ⌜ r ≡ rowSlotsFor (orderedAt (now (sends .entry)) (now (period .entry)) (now (deadline .entry)) (now (priority .entry)) tasks queue)
+    ensures { λ r. ⌜ r ≡ rowSlotsFor
+        (orderedAt (now (sends .entry)) (now (period .entry)) (now (deadline .entry)) (now (priority .entry)) tasks queue)
         chart wanted ticks task ⌝ }
 {
     let jobs = ticks / period[task];
@@ -189,8 +191,10 @@ fn share<'a>(
     requires { ⌜ Lent (now sends) (now period) (now deadline) tasks queue
         × (1 ≤ chart) × (chart ≤ longestPeriod) × (wanted ≤ longestPeriod) × (task < tasks)
         × (getD (now period) task 0 ≤ longestPeriod) × (ticks ≤ longestHyperperiod) ⌝ }
-    ensures { λ r. ⌜ r ≡ only ((orderedAt (now (sends .entry)) (now (period .entry)) (now (deadline .entry)) (now (priority .entry)) tasks queue) .sends task)
-        (rowSlotsFor (orderedAt (now (sends .entry)) (now (period .entry)) (now (deadline .entry)) (now (priority .entry)) tasks queue) chart wanted ticks task) ⌝ }
+    ensures { λ r. ⌜ r ≡ only
+        ((columnsAt (now (sends .entry)) (now (period .entry)) (now (deadline .entry)) tasks queue) .sends task)
+        (rowSlotsFor (orderedAt (now (sends .entry)) (now (period .entry)) (now (deadline .entry)) (now (priority .entry)) tasks queue)
+        chart wanted ticks task) ⌝ }
 {
     if sends[queue * Plan::TASKS + task] {
         row_slots(

@@ -24,8 +24,8 @@ sender-at-requires c κs = rw (c .tick-between .ensures) (c .before .pre .0, tic
 returns : tie.Need-returns
 returns c =
     let k = c .before .before in
-    c .sender-at .ensures
-    ∙ sender-is _ _ _ _ (c .before .tick-between .ensures ∙ ap tick (tickOf-ordered (k .pre .0) (k .args .priority .now) lastTick (k .args .n .0)))
+    let e = tickOf-ordered (k .pre .0) (k .args .priority .now) lastTick (k .args .n .0) in
+    c .sender-at .ensures ∙ sender-is _ _ _ _ (c .before .tick-between .ensures ∙ ap tick e)
 
 pub sender-in-spec : {M : Type 1} → statement M
 sender-in-spec = tie.close (tie.spec (λ c κs. search needs) sender-at-requires returns)

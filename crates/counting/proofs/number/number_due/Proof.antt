@@ -52,7 +52,8 @@ add-sum c =
     let l = t .before .before in
     let a = l .before .before .before .before .args in
     let q = orderedAt (a .sends .now) (a .period .now) (a .deadline .now) (a .priority .now) (a .tasks) (a .queue) in
-    let r = rw (u .last-counted .ensures, u .before .precedes .ensures q refl refl, l .before .before .before .tick-before .ensures) at (c .count .ensures) in
+    let r = rw (u .last-counted .ensures, u .before .precedes .ensures q refl refl, l .before .before .before .tick-before .ensures)
+    at (c .count .ensures) in
     let e : rowUntil q (a .due .0) (a .task) (l .before .loop .i) ≡ c .count .result = simp (t .if1 .taken) (sym r) in
     omega (arith, part-fits l, e)
 

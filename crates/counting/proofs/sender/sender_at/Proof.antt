@@ -33,8 +33,8 @@ returns : tie.Need-returns Inv-loop μ-loop
 returns c =
     let l = c .before .before .before in
     let a = l .before .args in
-    found (sentBy (orderedAt (a .sends .now) (a .period .now) (a .deadline .now) (a .priority .now) (a .tasks) (a .queue)) (a .at .0) (a .n .0)) (l .loop .row)
-    (l .loop .inv .1)
+    found (sentBy (orderedAt (a .sends .now) (a .period .now) (a .deadline .now) (a .priority .now) (a .tasks) (a .queue)) (a .at .0) (a .n .0))
+    (l .loop .row) (l .loop .inv .1)
     (c .before .sent-by .result) (c .before .sent-by .ensures) (a .tasks) (omega arith) (c .if1 .taken)
 
 loop-again : tie.Need-loop-again Inv-loop μ-loop
@@ -42,8 +42,8 @@ loop-again c =
     let l = c .before .before .before in
     let a = l .before .args in (
       omega arith,
-      more (sentBy (orderedAt (a .sends .now) (a .period .now) (a .deadline .now) (a .priority .now) (a .tasks) (a .queue)) (a .at .0) (a .n .0)) (l .loop .row)
-          (l .loop .inv .1)
+      more (sentBy (orderedAt (a .sends .now) (a .period .now) (a .deadline .now) (a .priority .now) (a .tasks) (a .queue)) (a .at .0) (a .n .0))
+          (l .loop .row) (l .loop .inv .1)
           (c .before .sent-by .result) (c .before .sent-by .ensures) (c .if1 .left),
     )
 

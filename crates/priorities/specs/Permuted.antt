@@ -1,21 +1,14 @@
 -- A queue whose rows stand in another order. Releases, deadlines, windows and the ticks at which messages are outdated do not hang on the
 -- order of the rows; and where the messages have the same numbers, the queue has the same slots. Priorities are not asked for here.
-use Rattle.common.specs.Words.{ℕ, _+_, _-_, _*_, _<_, _≤_, arith, _↔_, _≡_, refl, sym, ap, subst, _∙_}
+use Rattle.common.specs.Words.{ℕ, _+_, _-_, _*_, _/_, _<_, _≤_, arith, _↔_, _≡_, refl, sym, ap, subst, _∙_}
 use Rattle.common.specs.Totals.{sum, sum-ext}
-use Rattle.common.specs.Permutation.{Permutation, sum-permuted}
 use Rattle.model.specs.Model.{Queue, Valid, Sender, receiverPeriod, receiverDeadline, releaseOf, deadlineOf, rowUpTo, upTo, dueAt}
-use Rattle.model.specs.Model.{number, first, last, wantedFor, slots}
-use Rattle.model.specs.Source.{Fit, outdatedAt}
+use Rattle.model.specs.Model.{number, first, last, wantedFor, hyperperiod, rowMessages, messages, slots}
+use Rattle.model.specs.Source.{Fit, outdatedAt, CommonMultiple}
+use Rattle.model.specs.Multiple.{hyperperiod-common, hyperperiod-least}
 use Rattle.model.specs.Slots.{slots-fit, slots-least}
-
--- p is q with row i at row s i; r leads back
-pub record Permuted (q p : Queue) (s r : ℕ → ℕ) : Type 0 where
-  pub rows : p .rows ≡ q .rows
-  pub order : Permutation (q .rows) s r
-  pub period : (i : ℕ) → i < q .rows → p .period (s i) ≡ q .period i
-  pub deadline : (i : ℕ) → i < q .rows → p .deadline (s i) ≡ q .deadline i
-  pub sends : (i : ℕ) → i < q .rows → p .sends (s i) ≡ q .sends i
-  pub receiver : p .receiver ≡ s (q .receiver)
+use Rattle.priorities.specs.Priorities.{Permuted}
+use Rattle.priorities.specs.Sums.{sum-permuted}
 
 module _ {q p : Queue} {s r : ℕ → ℕ} (m : Permuted q p s r) where
   pub permuted-sender : (i : ℕ) → Sender q i → Sender p (s i)
@@ -71,6 +64,39 @@ module _ {q p : Queue} {s r : ℕ → ℕ} (m : Permuted q p s r) where
           subst (λ (x : ℕ). p .deadline x ≤ p .period x) (m .order .forth j b)
           (rw (m .deadline (r j) (m .order .from j b), m .period (r j) (m .order .from j b)) (v .deadline-fits (r j) (m .order .from j b)));
     }
+
+    -- Rules 4 and 5 judge alike: the hyperperiod, and the messages in so many ticks, are the same.
+    common-there : (H : ℕ) → CommonMultiple q H → CommonMultiple p H
+    common-there H c = record {
+      pos = c .pos;
+      receiver = rw (receiver-permuted .0) (c .receiver);
+      row = λ j x.
+          let l : j < q .rows = rw (m .rows) at (x .row) in
+          subst (λ (y : ℕ). H / p .period y * p .period y ≡ H) (m .order .forth j l)
+          (rw (m .period (r j) (m .order .from j l)) (c .row (r j) (sender-permuted j x)));
+    }
+
+    common-back : (H : ℕ) → CommonMultiple p H → CommonMultiple q H
+    common-back H c = record {
+      pos = c .pos;
+      receiver = rw (receiver-permuted .0) at (c .receiver);
+      row = λ i x. rw (m .period i (x .row)) at (c .row (s i) (permuted-sender i x));
+    }
+
+    pub hyperperiod-permuted : hyperperiod p ≡ hyperperiod q
+    hyperperiod-permuted =
+        omega (
+          arith,
+          hyperperiod-least p permuted-valid (hyperperiod q) (common-there (hyperperiod q) (hyperperiod-common q v)) .1,
+          hyperperiod-least q v (hyperperiod p) (common-back (hyperperiod p) (hyperperiod-common p permuted-valid)) .1,
+        )
+
+    pub messages-permuted : (H : ℕ) → messages p H ≡ messages q H
+    unfolding messages
+    messages-permuted H =
+        ap (sum (rowMessages p H)) (m .rows)
+        ∙ sym (sum-permuted (q .rows) s r (m .order) (rowMessages p H))
+        ∙ sum-ext _ _ (q .rows) (λ j l. rw (m .sends j l, m .period j l))
 
     -- Where each message has the same number in both,
     module _ (alike : (i k : ℕ) → Sender q i → number p (s i) k ≡ number q i k) where

@@ -3,17 +3,19 @@
 use Rattle.common.specs.Words.{ℕ, _-_, _<_, _≤_, ℕ-discrete, true, inr, _≡_, refl, sym, ap, subst, _∙_}
 use Rattle.common.specs.Tests.{having}
 use Rattle.common.specs.Totals.{sum, only-eq, sum-ext}
-use Rattle.common.specs.Permutation.{Permutation, sum-permuted}
 use Rattle.model.specs.Model.{Queue, Valid, Sender, deadlineOf, upTo, dueAt, precedes, rowFollowers, followers, number}
 use Rattle.model.specs.Model.{first, last, slots}
-use Rattle.model.specs.Ties.{Ahead, prec-irrefl, prec-higher, prec-equal, prec-iff}
+use Rattle.model.specs.Source.{Ahead}
+use Rattle.model.specs.Ties.{prec-irrefl, prec-higher, prec-equal, prec-iff}
 use Rattle.model.specs.Number.{number-less}
 use Rattle.model.specs.WayBack.{dueAt-job}
-use Rattle.model.specs.Permuted.{Permuted, deadline-permuted, due-permuted, upTo-permuted, slots-permuted}
+use Rattle.priorities.specs.Priorities.{Permuted, OnePriority, Told, byRow}
+use Rattle.priorities.specs.Sums.{sum-permuted}
+use Rattle.priorities.specs.Permuted.{deadline-permuted, due-permuted, upTo-permuted, slots-permuted}
 
 -- "Of two messages of a queue with equal deadlines, the higher priority has the lower number; of equal priorities, the lower row."
-pub ahead-lower : (q : Queue) → Valid q → (i k j l : ℕ) → Sender q i → Sender q j → deadlineOf q i k ≡ deadlineOf q j l → Ahead q i j →
-    number q i k < number q j l
+pub ahead-lower : (q : Queue) → Valid q → (i k j l : ℕ) → Sender q i → Sender q j →
+    deadlineOf q i k ≡ deadlineOf q j l → Ahead q i j → number q i k < number q j l
 ahead-lower q v i k j l si sj e a = number-less q v i k j l si sj (inr (e, prec-iff q i j .1 a))
 
 -- Where two queues count alike and the messages that are due with a message go before and after it alike, it has the same number in both.
@@ -35,21 +37,6 @@ module _ {q p : Queue} {s r : ℕ → ℕ} (m : Permuted q p s r) where
           (only-eq (dueAt q (deadlineOf q i k) j) _ _ (λ d. rw (h j b d))))
 
 -- ## One priority
-
--- The queue by row alone: all its tasks have priority 0.
-abbrev pub byRow : Queue → Queue
-byRow q = record {
-  rows = q .rows;
-  period = q .period;
-  deadline = q .deadline;
-  priority = λ i. 0;
-  sends = q .sends;
-  receiver = q .receiver;
-}
-
--- All senders have one priority.
-abbrev pub OnePriority : Queue → Type 0
-OnePriority q = (i j : ℕ) → Sender q i → Sender q j → q .priority i ≡ q .priority j
 
 module _ (q : Queue) (v : Valid q) where
   in-place : Permuted q (byRow q) (λ i. i) (λ i. i)
@@ -81,11 +68,7 @@ module _ (q : Queue) (v : Valid q) where
 
 -- ## Rows in another order
 
--- No two senders with a common deadline have one priority;
-abbrev pub Told : Queue → Type 0
-Told q = (i k j l : ℕ) → Sender q i → Sender q j → deadlineOf q i k ≡ deadlineOf q j l → q .priority i ≡ q .priority j → i ≡ j
-
--- so it is where no two senders have.
+-- "(distinct priorities are enough)"
 pub told-of : (q : Queue) → ((i j : ℕ) → Sender q i → Sender q j → q .priority i ≡ q .priority j → i ≡ j) → Told q
 told-of q h i k j l si sj d e = h i j si sj e
 

@@ -1,2 +1,0 @@
--- The pages of this crate's definitions and laws.
-pub mod Sorted
