@@ -1,8 +1,8 @@
 -- AADL.md, section 5: the table. Its numbers are those that planning takes.
-use Rattle.common.specs.Words.{ℕ, suc, _-_, _/_, _%_, Bool, false, not, cond, List, [], _∷_, eqb, length}
+use Rattle.common.specs.Words.{ℕ, suc, _-_, _/_, _%_, _≤_, Bool, false, not, cond, List, [], _∷_, eqb, length}
 use Rattle.common.specs.Table.{table}
 use Rattle.keys.specs.Keys.{key}
-use Rattle.rows.specs.Rows.{Row, periodColumn, deadlineColumn, priorityColumn}
+use Rattle.rows.specs.Rows.{Row, periodColumn, deadlineColumn, priorityColumn, mostValue}
 use Rattle.index.specs.Index.{aConnection}
 use Rattle.ways.specs.Ways.{cell, look, threadNamed, propertyOf}
 use Rattle.verdict.specs.Verdict.{none}
@@ -51,3 +51,7 @@ tableOf p rows =
       receiver = table (atOr qs (receiverOf p rows) 0) queueLimit;
       sends = table (sendsAt p rows ts qs) cellLimit;
     }
+
+-- rows of which none has a Priority over 255
+pub record Ranked (rows : List Row) : Type 0 where
+  pub low : (k : ℕ) → cell rows k priorityColumn ≤ mostValue

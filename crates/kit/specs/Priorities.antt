@@ -1,16 +1,12 @@
--- A priority fits a byte: no row of a text has one over 255.
-use Rattle.common.specs.Words.{ℕ, _≤_, _<_, arith, List, [], _∷_, _≡_, eqb, ltb, length, getD}
+-- Priorities fit a byte where no row has one over 255.
+use Rattle.common.specs.Words.{ℕ, _≤_, _<_, arith, List, [], _∷_, eqb, ltb, length, getD}
 use Rattle.common.specs.Table.{table, table-at}
 use Rattle.tokens.specs.Laws.{cases}
-use Rattle.rows.specs.Rows.{Row, priorityColumn}
-use Rattle.rows.specs.Wide.{mostValue}
+use Rattle.rows.specs.Rows.{Row, priorityColumn, mostValue}
 use Rattle.ways.specs.Ways.{cell, firstIn, propertyOf}
 use Rattle.plan.specs.Limits.{taskLimit}
 use Rattle.chosen.specs.Chosen.{threadsOf, atOr}
-use Rattle.kit.specs.Kit.{saidBy, figureOf}
-
-pub record Ranked (rows : List Row) : Type 0 where
-  pub low : (k : ℕ) → cell rows k priorityColumn ≤ mostValue
+use Rattle.kit.specs.Kit.{saidBy, figureOf, Ranked}
 
 abbrev pub InBytes : List ℕ → Type 0
 InBytes figures = (i : ℕ) → i < taskLimit → getD figures i 0 ≤ 255

@@ -18,8 +18,8 @@ ghost use Rattle.index.specs.Index.{rowsIn, Indexed};
 ghost use Rattle.ways.specs.Ways.{Known};
 ghost use Rattle.plan.specs.Limits.{taskLimit, queueLimit, cellLimit};
 ghost use Rattle.chosen.specs.Chosen.{threadsOf, queuesOf, chosen, atOr};
-ghost use Rattle.kit.specs.Priorities.{Ranked, InBytes};
-ghost use Rattle.kit.specs.Kit.{saidBy, insteadOf, figureOf, position, receiverOf, joins, sendsAt, tableOf};
+ghost use Rattle.kit.specs.Kit.{saidBy, insteadOf, figureOf, position, receiverOf, joins, sendsAt, tableOf, Ranked};
+ghost use Rattle.kit.specs.Priorities.{InBytes};
 
 const CONNECTION: usize = 7;
 

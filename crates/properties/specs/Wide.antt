@@ -5,8 +5,9 @@ use Rattle.tokens.specs.Tokens.{Token}
 use Rattle.tokens.specs.Laws.{cases}
 use Rattle.steps.specs.Steps.{Step, On, is, named, the}
 use Rattle.times.specs.PriorityLaws.{priority-low}
+use Rattle.rows.specs.Rows.{mostValue}
 use Rattle.rows.specs.Said.{Said, Rule, quiet}
-use Rattle.rows.specs.Wide.{mostValue, Low, Wide, WideOn, wide-silent, wide-quiet, wide-onward, wide-optionally, wide-repeat}
+use Rattle.rows.specs.Wide.{Low, Wide, WideOn, wide-silent, wide-quiet, wide-onward, wide-optionally, wide-repeat}
 use Rattle.properties.specs.Properties.{priority, propertyAt, readIn, form, owned, skippedIn, associationIn, associationsIn, blockIn}
 use Rattle.properties.specs.Properties.{maybeBlockIn, noneOr, propertiesIn}
 use Rattle.properties.specs.Laws.{form-priority, formAt}

@@ -1,5 +1,5 @@
 -- Laws of the reader: what ends a reading, what the state after a reading says, and the answer by the least fault.
-use Rattle.common.specs.Words.{ℕ, zero, suc, _*_, _<_, _≤_, min, arith, ⊎-elim, Bool, true, false, true≢false, _&&_, List, [], _∷_, _++_}
+use Rattle.common.specs.Words.{ℕ, zero, suc, _<_, _≤_, min, arith, ⊎-elim, Bool, true, false, true≢false, _&&_, List, [], _∷_, _++_}
 use Rattle.common.specs.Words.{_≡_, refl, sym, ap, _∙_, eqb, eq-eqb, ne-eqb, leb, leb-true, ltb, length, length-append, take, take-all}
 use Rattle.common.specs.Words.{length-take-le, getD, getD-replicate}
 use Rattle.common.specs.Tests.{lt-or-le}
@@ -22,8 +22,8 @@ use Rattle.texts.specs.Texts.{wholeText}
 use Rattle.texts.specs.Pays.{room}
 use Rattle.texts.specs.Wide.{whole-wide}
 use Rattle.verdict.specs.Verdict.{judged}
-use Rattle.kit.specs.Kit.{tableOf}
-use Rattle.kit.specs.Priorities.{Ranked, InBytes, priorities-fit}
+use Rattle.kit.specs.Kit.{tableOf, Ranked}
+use Rattle.kit.specs.Priorities.{priorities-fit}
 use Rattle.findings.specs.declared.Answer.the-variants.{Sound, Refused, NoRoom}
 use Rattle.findings.specs.declared.Read.{Read}
 use Rattle.findings.specs.declared.Table.{Table}
@@ -204,7 +204,7 @@ enough-plain plain rows declared connected queued types h =
 
 -- ## A text's priorities fit a byte
 
-pub priorities-low : (text : List ℕ) → InBytes (readOf text .table .priority)
+pub priorities-low : (text : List ℕ) (i : ℕ) → i < 16 → getD (readOf text .table .priority) i 0 ≤ 255
 unfolding readOf answerPlain answerBy tableOf
 priorities-low text i l =
     let p = plainText text in

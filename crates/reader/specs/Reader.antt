@@ -14,8 +14,7 @@ use Rattle.verdict.specs.Verdict.{judged}
 use Rattle.index.specs.Index.{rowsIn, Indexed}
 use Rattle.rows.specs.Rows.{rowWords}
 use Rattle.ways.specs.Ways.{Known}
-use Rattle.kit.specs.Kit.{tableOf}
-use Rattle.kit.specs.Priorities.{Ranked}
+use Rattle.kit.specs.Kit.{tableOf, Ranked}
 use Rattle.findings.specs.declared.Answer.the-variants.{Sound, Refused, NoRoom}
 use Rattle.findings.specs.declared.Read.{Read}
 use Rattle.findings.specs.declared.Refusal.{Refusal}

@@ -43,6 +43,10 @@ deadlineColumn = 6
 abbrev pub priorityColumn : ℕ
 priorityColumn = 9
 
+-- the greatest value that stands there, of 255
+abbrev pub mostValue : ℕ
+mostValue = 257
+
 -- a process implementation: the place of its "process"
 unfoldable pub processRow : ℕ → Row
 processRow p = aProcess ∷ p ∷ p ∷ 0 ∷ 0 ∷ 0 ∷ 0 ∷ 0 ∷ 0 ∷ 0 ∷ []

@@ -1,16 +1,12 @@
 -- Every row that is declared has all its columns, and its Priority, where it has one, is at most 255.
-use Rattle.common.specs.Words.{ℕ, zero, suc, _≤_, arith, Bool, true, false, true≢false, List, [], _∷_, _++_, _≡_, refl, sym, ap, _∙_}
+use Rattle.common.specs.Words.{ℕ, zero, suc, _≤_, arith, Bool, true, false, true≢false, List, [], _∷_, _++_, _≡_, refl, sym}
 use Rattle.common.specs.Words.{cond, eqb, eqb-true, eq-eqb, leb, leb-true, le-leb, length, getD, _&&_}
-use Rattle.common.specs.Table.{table, table-at}
+use Rattle.common.specs.Table.{table-at}
 use Rattle.tokens.specs.Tokens.{Token}
 use Rattle.tokens.specs.Laws.{cases}
 use Rattle.steps.specs.Steps.{Step, On, Stop}
-use Rattle.rows.specs.Rows.{Row, rowWords, property, priorityColumn}
+use Rattle.rows.specs.Rows.{Row, rowWords, property, priorityColumn, mostValue}
 use Rattle.rows.specs.Said.{Said, Rule, quiet, onward, _⨟_, optionally, repeatBy, repeat, put, noProps, merged, apart, adding}
-
--- the greatest value of a Priority, which is 2 more than the number
-abbrev pub mostValue : ℕ
-mostValue = 257
 
 unfoldable pub fits : Row → Bool
 fits row = eqb (length row) rowWords && leb (getD row priorityColumn 0) mostValue

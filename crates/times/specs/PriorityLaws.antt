@@ -1,5 +1,5 @@
 -- Laws of priorities: the form that the code reads is that of the definition, a priority goes on by a token, and none is over 255.
-use Rattle.common.specs.Words.{ℕ, _+_, _-_, _<_, _≤_, min, arith, Bool, true, false, List, [], _∷_, drop}
+use Rattle.common.specs.Words.{ℕ, _+_, _-_, _<_, _≤_, min, arith, true, false, List}
 use Rattle.common.specs.Words.{_≡_, refl, sym, ap, _∙_, eqb, eqb-true, leb, leb-true, eq-eqb, ne-eqb, le-leb, lt-leb}
 use Rattle.common.specs.Stores.{part}
 use Rattle.words.specs.Kinds.{ENDED, NUMBER}
@@ -10,7 +10,6 @@ use Rattle.tokens.specs.Laws.{either, cases}
 use Rattle.steps.specs.declared.Went.{Went}
 use Rattle.steps.specs.Faults.{fault, noFault, worse, worst}
 use Rattle.steps.specs.Steps.{Step, On, Stop, head, next}
-use Rattle.steps.specs.Lifted.{lift}
 use Rattle.steps.specs.Laws.{Moved, stopped}
 use Rattle.times.specs.declared.Sum.{Sum}
 use Rattle.times.specs.Times.{sum, withBytes, tenfold, most, Formed, valued}
