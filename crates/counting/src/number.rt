@@ -4,20 +4,24 @@ use calendar::Number;
 use calendar::Tick;
 use plan::Plan;
 ghost use Rattle.common.specs.Words.{_≡_, cond, _-_, _<_, _≤_};
+ghost use Rattle.common.specs.Totals.{only};
 ghost use Rattle.model.specs.Model.{Queue, precedes};
 ghost use Rattle.calendar.specs.Calendar.{message};
 ghost use Rattle.plan.specs.Limits.{lastTick};
 ghost use Rattle.counting.specs.Columns.{orderedAt, Lent, numberDue};
 
-// Of two messages with equal deadlines, whether the task's goes before the row's: the higher priority first, and equal ones by row.
+fn one_if(so: bool) -> u64
+    ensures { λ r. ⌜ r ≡ only so 1 ⌝ }
+{
+    if so { 1 } else { 0 }
+}
+
+// Of two messages with equal deadlines, whether the task's goes before the row's: the higher priority first, and equal ones by row. The
+// lower row counts as if its priority were higher by one: so there is one comparison, and no branch that would be guessed wrong.
 fn precedes(own: u8, other: u8, task: usize, row: usize) -> bool
     ensures { λ r. ⌜ ((q : Queue) → q .priority task ≡ own → q .priority row ≡ other → r ≡ precedes q task row) ⌝ }
 {
-    if own == other {
-        task < row
-    } else {
-        other < own
-    }
+    (other as u64) < own as u64 + one_if(task < row)
 }
 
 // One tick earlier; tick 0 stays, where no message is due.

@@ -23,20 +23,14 @@ fn task_column(tasks: usize, values: [u64; Plan::TASKS]) -> [u64; Plan::TASKS]
     out
 }
 
-// A priority is a byte.
-fn byte_within(on: bool, value: u8) -> u8
-    ensures { λ r. ⌜ r ≡ only on value ⌝ }
-{
-    if on { value } else { 0 }
-}
-
-// The priorities, a column of the tasks.
+// The priorities, a column of the tasks in bytes: those beyond the count become 0. A loop of a fixed length would be unrolled, and each byte
+// of the plan then copied by itself.
 fn byte_column(tasks: usize, values: [u8; Plan::TASKS]) -> [u8; Plan::TASKS]
     ensures { λ r. ⌜ r ≡ counted taskLimit tasks values ⌝ }
 {
-    let mut out = [0; Plan::TASKS];
-    for i in 0..Plan::TASKS {
-        out[i] = byte_within(i < tasks, values[i]);
+    let mut out = values;
+    for i in tasks..Plan::TASKS {
+        out[i] = 0;
     }
     out
 }
