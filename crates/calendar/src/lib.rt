@@ -1,7 +1,7 @@
 // One task's calendar: its releases and deadlines, and the common multiple of two periods. Ticks, jobs, message numbers and slots are
 // counted from different places, so each has a type of its own wherever a function hands one on; so many ticks, messages or slots are
 // plain numbers. All functions are inner ones: they require what the crates above have tested.
-ghost use Rattle.common.specs.Words.{_≡_, _<_, _≤_, _^_, _/_};
+ghost use Rattle.common.specs.Words.{_≡_, _+_, _<_, _≤_, _^_, _/_};
 ghost use Rattle.model.specs.Model.{Queue, receiverDeadline, wantedFor, count, hasDeadline, released, due, gcd, lcm};
 ghost use Rattle.calendar.specs.Calendar.{tick, job, capped};
 
@@ -41,16 +41,13 @@ pub fn job_at(period: u64, at: Tick) -> Job
     Job(at.0 / period)
 }
 
-// How many of a task's jobs have their deadline at or before a tick.
+// How many of a task's jobs have their deadline at or before a tick. No deadline is longer than its period, so the quotient is 0 before
+// the first one, and no branch asks for it.
 pub fn count(period: u64, deadline: u64, at: Tick) -> u64
-    requires { ⌜ (1 ≤ period) × (1 ≤ deadline) ⌝ }
+    requires { ⌜ (1 ≤ period) × (deadline ≤ period) × (at .0 + period < 2 ^ 64) ⌝ }
     ensures { λ r. ⌜ r ≡ count period deadline (at .0) ⌝ }
 {
-    if at.0 < deadline {
-        0
-    } else {
-        (at.0 - deadline) / period + 1
-    }
+    (at.0 + (period - deadline)) / period
 }
 
 // Whether one of a task's jobs has its deadline at a tick.

@@ -3,7 +3,7 @@
 -- equal deadlines does (`orderedAt`). A plan's own columns make the counts of its queue (`upTo-columns` and the laws after it).
 use Rattle.common.specs.Words.{ℕ, _+_, _-_, _*_, _<_, _≤_, arith, Bool, false, List, [], _≡_, refl, getD}
 use Rattle.model.specs.Model.{Queue, Valid, dueAt, precedes, upTo, followers, tickOf, sentBy, senderOf}
-use Rattle.plan.specs.Limits.{taskLimit, queueLimit}
+use Rattle.plan.specs.Limits.{taskLimit, queueLimit, longestPeriod}
 use Rattle.plan.specs.Plan.{queueAt, Usable}
 use Rattle.plan.specs.declared.Plan.{Plan}
 
@@ -28,6 +28,7 @@ numberDue q t i = upTo q t - followers q t i
 pub record Lent (sends : List Bool) (period deadline : List ℕ) (tasks q : ℕ) : Type 0 where
   pub tasks-fit : tasks ≤ taskLimit
   pub queue-fits : q < queueLimit
+  pub periods-fit : (i : ℕ) → i < tasks → getD period i 0 ≤ longestPeriod
   pub valid : Valid (columnsAt sends period deadline tasks q)
 
 -- priorities change neither what is valid nor a count
@@ -59,6 +60,7 @@ module _ (p : Plan) (q : ℕ) where
   lent u = record {
     tasks-fit = u .tasks-fit;
     queue-fits = u .queue-fits;
+    periods-fit = u .periods-fit;
     valid = record {
       receiver-row = omega (arith, u .valid .receiver-row);
       deadline-pos = u .valid .deadline-pos;

@@ -3,7 +3,7 @@
 use calendar::Number;
 use calendar::Tick;
 use plan::Plan;
-ghost use Rattle.common.specs.Words.{_≡_, cond, _-_, _<_, _≤_};
+ghost use Rattle.common.specs.Words.{_≡_, cond, _+_, _<_, _≤_};
 ghost use Rattle.common.specs.Totals.{only};
 ghost use Rattle.model.specs.Model.{Queue, precedes};
 ghost use Rattle.calendar.specs.Calendar.{message};
@@ -24,18 +24,13 @@ fn precedes(own: u8, other: u8, task: usize, row: usize) -> bool
     (other as u64) < own as u64 + one_if(task < row)
 }
 
-// One tick earlier; tick 0 stays, where no message is due.
-fn tick_before(at: Tick) -> Tick
-    ensures { λ r. ⌜ r .0 ≡ at .0 - 1 ⌝ }
+// Up to which tick a row's messages count for the number of the task's, which is due in the tick after `before`.
+pub fn last_counted(own: u8, other: u8, task: usize, row: usize, before: Tick) -> Tick
+    requires { ⌜ before .0 < lastTick ⌝ }
+    ensures { λ r. ⌜ ((q : Queue) → q .priority task ≡ own → q .priority row ≡ other →
+        r .0 ≡ cond (precedes q task row) (before .0) (before .0 + 1)) ⌝ }
 {
-    if at.0 == 0 { at } else { Tick(at.0 - 1) }
-}
-
-// Up to which tick a row's messages count for the number of the task's at a tick, by whether the row goes after it.
-fn last_counted(later: bool, before: Tick, at: Tick) -> Tick
-    ensures { λ r. ⌜ r .0 ≡ cond later (before .0) (at .0) ⌝ }
-{
-    if later { before } else { at }
+    Tick(before.0 + one_if(!precedes(own, other, task, row)))
 }
 
 pub fn number_due<'a>(
@@ -48,17 +43,18 @@ pub fn number_due<'a>(
     due: Tick,
     task: usize,
 ) -> Number
-    requires { ⌜ Lent (now sends) (now period) (now deadline) tasks queue × (due .0 ≤ lastTick) × (task < tasks) ⌝ }
+    requires { ⌜ Lent (now sends) (now period) (now deadline) tasks queue × (1 ≤ due .0) × (due .0 ≤ lastTick)
+        × (task < tasks) ⌝ }
     ensures { λ r. ⌜ r ≡ message (numberDue
         (orderedAt (now (sends .entry)) (now (period .entry)) (now (deadline .entry)) (now (priority .entry)) tasks queue) (due .0) task) ⌝ }
 {
     let base = queue * Plan::TASKS;
-    let before = tick_before(due);
+    let before = Tick(due.0 - 1);
     let own = priority[task];
     let mut sum: u64 = 0;
     for i in 0..tasks {
         if sends[base + i] {
-            let until = last_counted(precedes(own, priority[i], task, i), before, due);
+            let until = last_counted(own, priority[i], task, i, before);
             sum += calendar::count(period[i], deadline[i], until);
         }
     }

@@ -97,13 +97,14 @@ pub fn feed(
     let mut u = used;
     let mut at = from;
     let mut w: usize = 0;
+    // the bytes of one line after another: each turn reads only what it wrote
+    let mut bytes = [0; BYTES];
     while ENOUGH <= out.len() - w {
         let e = lines::end_of(piece, at);
         if piece.len() <= e {
             let n = lines::keep(held, u, &piece[at..]);
             return so_far(desk_with(d, tick, sent, reading), n, e, w);
         }
-        let mut bytes = [0; BYTES];
         let n = bytes_until(held, u, piece, at, e, &mut bytes);
         let frame = frames::frame::frame_of(&bytes[..n]);
         u = 0;

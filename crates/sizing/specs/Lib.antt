@@ -2,5 +2,5 @@
 pub mod Cycle
 pub mod Bounds
 pub mod Needs
-pub mod Outdated
-pub mod Deciding
+pub mod Above
+pub mod Jumps

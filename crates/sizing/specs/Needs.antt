@@ -1,11 +1,10 @@
 -- `horizon`, `need` and `rowSlots` of the model, over columns that have no receiver: two numbers stand in its place, its period, here
 -- `chart`, and how long its messages are wanted. With a plan's own columns and numbers they are those of its queue.
-use Rattle.common.specs.Words.{ℕ, _+_, _-_, _/_, _<_, _≤_, div-mul-le-self, div-eq-of-lt-le, lt-div-mul-add, lt-of-not-le, arith, _≡_, refl}
+use Rattle.common.specs.Words.{ℕ, _+_, _-_, _/_, _<_, _≤_, div-mul-le-self, div-eq-of-lt-le, lt-div-mul-add, arith, _≡_, refl}
 use Rattle.common.specs.Words.{ap}
 use Rattle.common.specs.Totals.{most}
-use Rattle.model.specs.Model.{Queue, Valid, Sender, released, releaseOf, deadlineOf, dueAt, precedes, upTo, followers, number}
+use Rattle.model.specs.Model.{Queue, released, releaseOf, deadlineOf, dueAt, precedes, upTo, followers, number}
 use Rattle.model.specs.Model.{receiverPeriod, wantedFor, horizon, outdated, need, rowSlots}
-use Rattle.model.specs.Number.{number-iff}
 use Rattle.plan.specs.Plan.{queueAt}
 use Rattle.plan.specs.declared.Plan.{Plan}
 use Rattle.counting.specs.Columns.{numberDue, planOrdered}
@@ -33,17 +32,6 @@ horizon-stays chart wanted from r h a b =
 
 pub horizon-ahead : (chart wanted r : ℕ) → 1 ≤ chart → r < horizonFor chart wanted r + wanted + chart
 horizon-ahead chart wanted r h = omega (arith, lt-div-mul-add {a = r - wanted} h)
-
--- so many messages are outdated at each tick from `from` on and before `until`
-abbrev pub OutdatedFrom : Queue → ℕ → ℕ → ℕ → ℕ → ℕ → Type 0
-OutdatedFrom q chart wanted from until count = (r : ℕ) → from ≤ r → r < until → upTo q (horizonFor chart wanted r) ≡ count
-
--- a message is not among those that are outdated when its job is released
-pub outdated-less : (q : Queue) → Valid q → (chart wanted i k : ℕ) → Sender q i →
-    upTo q (horizonFor chart wanted (releaseOf q i k)) < numberFor q i k
-unfolding number
-outdated-less q v chart wanted i k s =
-    lt-of-not-le (λ h. omega (arith, number-iff q v i k s _ .0 h, horizon-back chart wanted (releaseOf q i k), v .deadline-pos i (s .row)))
 
 pub rowSlots-ordered : (p : Plan) (q H i : ℕ) →
     rowSlotsFor (planOrdered p q) (receiverPeriod (queueAt p q)) (wantedFor (queueAt p q)) H i ≡ rowSlots (queueAt p q) H i

@@ -5,6 +5,7 @@ use Rattle.common.specs.Words.{needs, arith, List, _≡_, refl, sym, _∙_, ℕ
 use borrow.Rule.Slice.PartMut.{midOf, putMid}
 use mir.Syntax.{w64}
 use mir.Val.{Fits}
+use Rattle.digits.specs.Hex.{mostBytes}
 use Rattle.desk.specs.declared.Desk.{Desk}
 use Rattle.desk.specs.Desk.{withState}
 use Rattle.calls.specs.Leaves.{stateOf}
@@ -19,13 +20,15 @@ use Rattle.feed.proofs.feed.Statement.{statement}
 use Rattle.feed.proofs.feed.Tie as tie
 
 abbrev Inv-loop : tie.InvT-loop
-Inv-loop memory₀ held₀ used piece from out₀ d₀ tick₀ sent₀ r₀ seen₀ u₀ at₀ w₀ memory held out d tick sent reading seen u at w =
+Inv-loop memory₀ held₀ used piece from out₀ d₀ tick₀ sent₀ reading₀ seen₀ u₀ at₀ w₀ bytes₀
+    memory held out d tick sent reading seen u at w bytes =
     Underway (fedFrom (consoleOf d₀ memory₀) held₀ used piece from out₀) piece from held₀ out₀ memory held out
     (withState d (stateOf tick sent reading)) u at w
-    × (length memory ≡ length memory₀) × Remembers (d .plan) seen
+    × (length memory ≡ length memory₀) × Remembers (d .plan) seen × (length bytes ≡ mostBytes)
 
 abbrev μ-loop : tie.MeasureT-loop
-μ-loop memory₀ held₀ used piece from out₀ d₀ tick₀ sent₀ r₀ seen₀ u₀ at₀ w₀ memory held out d tick sent reading seen u at w =
+μ-loop memory₀ held₀ used piece from out₀ d₀ tick₀ sent₀ reading₀ seen₀ u₀ at₀ w₀ bytes₀
+    memory held out d tick sent reading seen u at w bytes =
     length piece - at
 
 loop-holds : tie.Need-loop-holds Inv-loop μ-loop
@@ -37,6 +40,7 @@ loop-holds c =
       underway-first (a .piece .now) (a .from) (a .memory .now) (a .held .now) (a .out .now) (a .desk) (a .used) (p .2) (p .0) (p .1) (p .3),
       refl,
       remembers-nothing (a .desk .plan) (c .nothing .ensures),
+      refl,
     )
 
 -- ## The end of a line is looked for
@@ -109,11 +113,12 @@ module _ (k : tie.After-frame-of Inv-loop μ-loop) where
       (a .from) (a .held .now) (a .out .now) (x .memory′) (line .bytes-until .last .0)
       (putMid (turn .loop .w) (length (turn .loop .out) - turn .loop .w) (turn .loop .out) (x .rest′))
       (x .result .desk) 0 (ended .end-of .result + 1) (turn .loop .w + x .result .written)
-      × (length (x .memory′) ≡ length (a .memory .now))
+      × (length (x .memory′) ≡ length (a .memory .now)) × (length (line .bytes-until .last .1 .1 .1 .1 .1 .0) ≡ mostBytes)
   again x = (
     turn-step (turn .loop .inv .0) x _ (ended .before .loop-test .taken) (ended .end-of .ensures) end-inside (line .bytes-until .ensures .1) refl
         (k .before .before .before .before .held2 .given),
     x .same-size ∙ turn .loop .inv .1,
+    line .bytes-until .kept .1 .1 .1 .1 .1 .0 ∙ turn .loop .inv .3,
   )
 
   fits : (x : Arm) → Fits w64 (turn .loop .w + x .result .written)
@@ -160,7 +165,7 @@ add-w c = fits (call-frame c) (call-arm c)
 
 loop-again : tie.Need-loop-again Inv-loop μ-loop
 unfolding withState call-arm
-loop-again c = let x = again (call-frame c) (call-arm c) in (x .0, x .1, called c .call-line .ensures .1)
+loop-again c = let x = again (call-frame c) (call-arm c) in (x .0, x .1, called c .call-line .ensures .1, x .2)
 
 -- ## A frame that changes the desk as a whole
 
@@ -192,7 +197,7 @@ loop-again-2 : tie.Need-loop-again-2 Inv-loop μ-loop
 unfolding withState table-arm
 loop-again-2 c =
     let x = again (table-frame c) (table-arm c) in
-    (x .0, x .1, remembers-nothing (set c .set-table .result .desk .plan) (c .before .nothing2 .ensures))
+    (x .0, x .1, remembers-nothing (set c .set-table .result .desk .plan) (c .before .nothing2 .ensures), x .2)
 
 -- ## The room is short
 

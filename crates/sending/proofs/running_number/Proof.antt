@@ -18,7 +18,8 @@ number-due-requires : tie.Need-number-due-requires
 number-due-requires c κs =
     let j = c .before .before .before in
     let k = j .before .before in
-    rw (c .deadline-of .ensures, j .job-at .ensures) (k .pre .0, k .pre .2, k .pre .1)
+    let positive = row-positive (k .pre .0) (k .args .task) (k .pre .1) .1 in
+    rw (c .deadline-of .ensures, j .job-at .ensures) (k .pre .0, omega (arith, positive), k .pre .2, k .pre .1)
 
 returns : tie.Need-returns
 unfolding number

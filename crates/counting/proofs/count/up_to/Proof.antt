@@ -4,7 +4,7 @@ use Rattle.common.specs.Totals.{sum, sum-next, sum-up}
 use Rattle.model.specs.Model.{rowUpTo, upTo}
 use Rattle.plan.specs.Limits.{taskLimit, lastTick}
 use Rattle.counting.specs.Columns.{columnsAt}
-use Rattle.counting.specs.Bounds.{row-positive, upTo-fits}
+use Rattle.counting.specs.Bounds.{row-counts, upTo-fits}
 use Rattle.counting.proofs.count.up_to.Statement.{statement}
 use Rattle.counting.proofs.count.up_to.Tie as tie
 
@@ -22,7 +22,7 @@ loop-holds c = (omega arith, refl)
 count-requires : tie.Need-count-requires Inv-loop μ-loop
 count-requires c κs =
     let l = c .before .before .before .before .before in
-    row-positive (l .before .pre .0) (l .loop .i) (omega arith)
+    row-counts (l .before .pre .0) (l .loop .i) (l .before .args .at .0) (omega arith) (l .before .pre .1)
 
 -- no part of the sum is more than all of it
 part-fits : (l : tie.In-loop Inv-loop μ-loop) → let k = l .before .before in let a = k .args in

@@ -1,5 +1,5 @@
 -- `number::number_at`: equation 2 at the job's deadline.
-use Rattle.common.specs.Words.{needs}
+use Rattle.common.specs.Words.{arith, needs}
 use Rattle.model.specs.Model.{number}
 use Rattle.counting.specs.Columns.{lent, numberDue-ordered}
 use Rattle.numbering.proofs.number.number_at.Statement.{statement}
@@ -9,7 +9,8 @@ number-due-requires : tie.Need-number-due-requires
 number-due-requires c κs =
     let d = c .before .before .before .before .before in
     let p = d .before .before .before .pre in
-    (lent _ _ (p .0), rw (d .deadline-of .ensures) (p .2), p .1 .row)
+    let positive = p .0 .valid .deadline-pos _ (p .1 .row) in
+    rw (d .deadline-of .ensures) (lent _ _ (p .0), omega (arith, positive), p .2, p .1 .row)
 
 returns : tie.Need-returns
 unfolding number

@@ -1,26 +1,25 @@
--- `sizing::sizes::row_slots`: the loop keeps the greatest need of the jobs passed, but for one that the next job's need makes up for, and
--- what is outdated from the next job's release on. The second hyperperiod ends before the last tick.
-use Rattle.common.specs.Words.{ℕ, _+_, _-_, _/_, _<_, _≤_, le-refl, div-le-self, div-mul-le-self, mul-le-mul-right, arith, needs}
-use Rattle.common.specs.Words.{_*_, max, false, _≡_, ap, sym, subst, _∙_}
-use Rattle.common.specs.Totals.{only}
-use Rattle.model.specs.Model.{Queue, Valid, Sender, releaseOf, deadlineOf, upTo}
+-- `sizing::sizes::row_slots`: the loop keeps the greatest need of the jobs passed, and asks one job for each horizon: the last that is
+-- released before it moves. The second hyperperiod ends before the last tick.
+use Rattle.common.specs.Words.{ℕ, _+_, _-_, _/_, _<_, _≤_, arith, needs, _≡_, refl, sym, ap, _∙_}
+use Rattle.common.specs.Words.{div-le-self, div-mul-le-self, mul-le-mul-right}
+use Rattle.common.specs.Totals.{most}
+use Rattle.model.specs.Model.{Queue, Valid, Sender, releaseOf, deadlineOf}
+use Rattle.calendar.specs.declared.Tick.{Tick}
 use Rattle.plan.specs.Limits.{lastTick, longestPeriod, longestHyperperiod}
-use Rattle.counting.specs.Columns.{orderedAt, valid-ordered}
+use Rattle.counting.specs.Columns.{orderedAt, valid-ordered, upTo-ordered}
 use Rattle.counting.specs.Bounds.{row-positive}
-use Rattle.sizing.specs.Needs.{horizonFor, needFor, OutdatedFrom, outdated-less}
-use Rattle.sizing.specs.Outdated.{outdated-ordered, outdated-next}
-use Rattle.sizing.specs.Deciding.{MostSoFar, most-none, most-more, need-rises, undecided}
+use Rattle.sizing.specs.Needs.{horizonFor, needFor, horizon-back, horizon-ahead, horizon-stays}
+use Rattle.sizing.specs.Jumps.{needs-jump}
 use Rattle.sizing.proofs.sizes.row_slots.Statement.{statement}
 use Rattle.sizing.proofs.sizes.row_slots.Tie as tie
 
 abbrev Inv-loop : tie.InvT-loop
-Inv-loop sends period deadline priority tasks queue chart wanted task ticks jobs most₀ outdated₀ k₀ most outdated k =
+Inv-loop sends period deadline priority tasks queue chart wanted task ticks each jobs most₀ k₀ most k =
     let q = orderedAt sends period deadline priority tasks queue in
-    (k ≤ jobs) × MostSoFar (λ k. needFor q chart wanted task (jobs + k)) jobs most k
-    × OutdatedFrom q chart wanted (releaseOf q task (jobs + k)) (outdated .until .0) (outdated .count)
+    (k ≤ jobs) × (most ≡ Rattle.common.specs.Totals.most (λ k. needFor q chart wanted task (jobs + k)) k)
 
 abbrev μ-loop : tie.MeasureT-loop
-μ-loop sends period deadline priority tasks queue chart wanted task ticks jobs most₀ outdated₀ k₀ most outdated k = jobs - k
+μ-loop sends period deadline priority tasks queue chart wanted task ticks each jobs most₀ k₀ most k = jobs - k
 
 -- the jobs of the second hyperperiod
 in-time : (q : Queue) → Valid q → (i H k : ℕ) → Sender q i → q .period i ≤ longestPeriod → H ≤ longestHyperperiod →
@@ -33,7 +32,7 @@ in-time q v i H k s f h l =
       mul-le-mul-right {m = k} {n = H / q .period i} (q .period i) (omega arith),
     )
 
--- one job of the loop
+-- one turn of the loop
 module _ (l : tie.In-loop Inv-loop μ-loop) where
   abbrev start : tie.Start Inv-loop μ-loop
   start = l .before .before .before
@@ -47,108 +46,123 @@ module _ (l : tie.In-loop Inv-loop μ-loop) where
   abbrev jobs : ℕ
   jobs = start .args .ticks / columns .period task
 
-  abbrev job : ℕ
-  job = jobs + l .before .loop .k
+  abbrev k : ℕ
+  k = l .before .loop .k
 
-  -- what the jobs of the second hyperperiod ask for
-  abbrev asked : ℕ → ℕ
-  asked k = needFor columns (start .args .chart) (start .args .wanted) task (jobs + k)
+  -- where the horizon is at the release of job x of the second hyperperiod
+  abbrev horizon : ℕ → ℕ
+  horizon x = horizonFor (start .args .chart) (start .args .wanted) (releaseOf columns task (jobs + x))
 
   valid : Valid columns
   valid = valid-ordered (start .pre .0) (start .args .priority .now)
 
-  within : deadlineOf columns task job ≤ lastTick
-  within =
+  within : (x : ℕ) → x < jobs → deadlineOf columns task (jobs + x) ≤ lastTick
+  within x h =
       let p = start .pre in
-      in-time columns valid task (start .args .ticks) (l .before .loop .k) (p .4) (p .5) (p .6) (l .loop-test .taken)
+      in-time columns valid task (start .args .ticks) x (p .4) (p .0 .periods-fit task (p .4 .row)) (p .5) h
+
+  jobs-small : jobs ≤ longestHyperperiod
+  jobs-small = omega (arith, div-le-self (start .args .ticks) (columns .period task), start .pre .5)
+
+  first-not-after : jobs ≤ jobs + k
+  first-not-after = omega arith
+
+  -- job k is released before the horizon moves
+  ahead : releaseOf columns task (jobs + k) < horizon k + start .args .wanted + start .args .chart
+  ahead = horizon-ahead (start .args .chart) (start .args .wanted) (releaseOf columns task (jobs + k)) (start .pre .1)
+
+  horizon-within : horizon k ≤ lastTick
+  horizon-within =
+      omega (arith, within k (l .loop-test .taken), horizon-back (start .args .chart) (start .args .wanted) (releaseOf columns task (jobs + k)))
 
 div-jobs : tie.Need-div-jobs Inv-loop μ-loop
-div-jobs c =
-    let k = c .before in
-    row-positive (k .pre .0) (k .args .task) (k .pre .4 .row) .0
+div-jobs c = let s = c .before in row-positive (s .pre .0) (s .args .task) (s .pre .4 .row) .0
 
 loop-holds : tie.Need-loop-holds Inv-loop μ-loop
-loop-holds c = (omega arith, most-none _ _, λ r f g. absurd (omega arith))
+unfolding most
+loop-holds c = (omega arith, refl)
 
-jobs-small : (l : tie.In-loop Inv-loop μ-loop) → job l ≤ lastTick
-jobs-small l =
-    let a = start l .args in
-    omega (arith, div-le-self (a .ticks) (columns l .period (a .task)), start l .pre .6, l .loop-test .taken)
+-- the horizon that was found
+found : (h : tie.After-horizon-at Inv-loop μ-loop) → h .horizon-at .result .0 ≡ horizon (h .before .before) (k (h .before .before))
+found h = rw (h .before .release-of .ensures) at (ap (λ (t : Tick). t .0) (h .horizon-at .ensures))
 
-release-requires : tie.Need-release-of-requires Inv-loop μ-loop
-release-requires c κs = omega (arith, within (c .before))
-
-outdated-requires : tie.Need-outdated-at-requires Inv-loop μ-loop
-outdated-requires c κs =
-    let l = c .before .before in
-    let p = start l .pre in
-    rw (c .release-of .ensures) (p .0, p .1, p .2, p .3, omega (arith, within l))
-
--- what is outdated at the job's release
-known : (c : tie.After-outdated-at Inv-loop μ-loop) → let l = c .before .before .before in let a = start l .args in
-    (upTo (columns l) (horizonFor (a .chart) (a .wanted) (releaseOf (columns l) (task l) (job l))) ≡ c .outdated-at .result .count)
-    × OutdatedFrom (columns l) (a .chart) (a .wanted) (releaseOf (columns l) (task l) (job l)) (c .outdated-at .result .until .0)
-    (c .outdated-at .result .count)
-known c =
+add-wanted : tie.Need-add-t25-2 Inv-loop μ-loop
+add-wanted c =
     let l = c .before .before .before in
-    let a = start l .args in
-    let p = start l .pre in
-    let r = releaseOf (columns l) (task l) (job l) in
-    let k = outdated-next (columns l) (a .chart) (a .wanted) r (l .before .loop .outdated) (p .1) (l .before .loop .inv .2) in
-    let o = outdated-ordered (p .0) (a .priority .now) (a .chart) (a .wanted) r (l .before .loop .outdated) in
-    let e = rw (← rw (c .before .release-of .ensures) at (c .outdated-at .ensures) ∙ o) at k in
-    (e .1 _ (le-refl _) (e .0), e .1)
+    omega (arith, found (c .before), horizon-within l, start l .pre .3)
 
-decides-requires : tie.Need-decides-requires Inv-loop μ-loop
-decides-requires c κs =
-    let r = c .before .before in
-    let l = r .before .before in
-    rw (r .release-of .ensures) (omega (arith, within l, start l .pre .5))
+add-chart : tie.Need-add-t27 Inv-loop μ-loop
+add-chart c =
+    let l = c .before .before .before in
+    omega (arith, found (c .before), horizon-within l, start l .pre .2, start l .pre .3)
 
-need-requires : tie.Need-need-of-requires Inv-loop μ-loop
-need-requires c κs =
-    let o = c .before .before in
-    let l = o .before .before .before in
-    let a = start l .args in
-    let p = start l .pre in
-    (p .0, p .4, within l, omega (arith, known o .0, outdated-less (columns l) (valid l) (a .chart) (a .wanted) (task l) (job l) (p .4)))
-
--- a job that does not decide is not the last, and asks for no more than the next
-passed-over : (d : tie.After-decides Inv-loop μ-loop) → let l = d .before .before .before .before .before in
-    d .decides .result ≡ false → (l .before .loop .k + 1 < jobs l) × (asked l (l .before .loop .k) ≤ asked l (l .before .loop .k + 1))
-passed-over d n =
-    let o = d .before .before in
-    let r = o .before in
-    let l = r .before .before in
-    let a = start l .args in
-    let p = start l .pre in
-    let k = l .before .loop .k in
-    let q = columns l in
-    let P = q .period (task l) in
-    let u = undecided (jobs l - k) (o .outdated-at .result .until .0) (releaseOf q (task l) (job l) + P)
-    (sym (rw (r .release-of .ensures) at (d .decides .ensures)) ∙ n) in
-    let e : jobs l + (k + 1) ≡ job l + 1 = omega arith in
-    let later : releaseOf q (task l) (jobs l + (k + 1)) ≡ releaseOf q (task l) (job l) + P = omega (arith, ap (λ (x : ℕ). x * P) e) in
-    let same = known o .1 (releaseOf q (task l) (jobs l + (k + 1))) (omega (arith, later)) (omega (arith, later, u .1)) in (
-      omega (arith, l .loop-test .taken, u .0),
-      need-rises q (valid l) (a .chart) (a .wanted) (task l) (job l) (jobs l + (k + 1)) (p .4) e (same ∙ sym (known o .0)),
+last-before-requires : tie.Need-last-before-requires Inv-loop μ-loop
+last-before-requires c κs =
+    let l = c .before .before .before in
+    let s = start l in (
+      row-positive (s .pre .0) (s .args .task) (s .pre .4 .row) .0,
+      omega (arith, l .loop-test .taken),
+      omega (arith, jobs-small l),
+      omega (arith, found (c .before), ahead l, mul-le-mul-right (columns l .period (task l)) (first-not-after l)),
     )
+
+-- the job that is asked: it has the same horizon
+module _ (c : tie.After-last-before Inv-loop μ-loop) where
+  abbrev turn : tie.In-loop Inv-loop μ-loop
+  turn = c .before .before .before .before
+
+  abbrev last : ℕ
+  last = c .last-before .result
+
+  abbrev released : ℕ
+  released = releaseOf (columns turn) (task turn) (jobs turn + last)
+
+  reached : k turn ≤ last
+  reached =
+      c .last-before .ensures .2 (k turn) (turn .loop-test .taken)
+      (omega (arith, found (c .before .before), ahead turn))
+
+  early : released < horizon turn (k turn) + start turn .args .wanted + start turn .args .chart
+  early = omega (arith, found (c .before .before), c .last-before .ensures .1)
+
+  same : c .before .before .horizon-at .result .0 ≡ horizon turn last
+  same =
+      found (c .before .before)
+      ∙ sym
+      (horizon-stays (start turn .args .chart) (start turn .args .wanted) (releaseOf (columns turn) (task turn) (jobs turn + k turn)) released
+      (start turn .pre .1) (mul-le-mul-right (columns turn .period (task turn)) (omega (arith, reached))) early)
+
+  due-within : deadlineOf (columns turn) (task turn) (jobs turn + last) ≤ lastTick
+  due-within = within turn last (c .last-before .ensures .0)
+
+  outdated-before : horizon turn last < deadlineOf (columns turn) (task turn) (jobs turn + last)
+  outdated-before =
+      omega (
+        arith,
+        horizon-back (start turn .args .chart) (start turn .args .wanted) released,
+        row-positive (start turn .pre .0) (task turn) (start turn .pre .4 .row) .1,
+      )
+
+need-of-requires : tie.Need-need-of-requires Inv-loop μ-loop
+need-of-requires c κs =
+    let b = c .before .before in
+    let p = start (turn b) .pre in
+    rw (c .deadline-of .ensures) (p .0, omega (arith, same b, outdated-before b), due-within b, p .4 .row)
 
 loop-again : tie.Need-loop-again Inv-loop μ-loop
 loop-again c =
-    let n = c .before in
-    let d = n .before in
-    let o = d .before .before in
-    let l = o .before .before .before in
-    let k = l .before .loop .k in
-    let e : n .need-of .result ≡ only (d .decides .result) (asked l k) = rw (known o .0) (n .need-of .ensures) in
-    let g : c .larger .result ≡ max (l .before .loop .most) (only (d .decides .result) (asked l k)) = rw (← e) (c .larger .ensures) in (
-      omega arith,
-      subst (λ (m : ℕ). MostSoFar (asked l) (jobs l) m (k + 1)) (sym g)
-          (most-more (asked l) (jobs l) (l .before .loop .most) k (d .decides .result) (l .loop-test .taken) (l .before .loop .inv .1)
-          (passed-over d)),
-      λ r f g. known o .1 r (omega (arith, f)) g,
-    )
+    let d = c .before .before in
+    let b = d .before .before in
+    let l = turn b in
+    let s = start l in
+    let chart = s .args .chart in
+    let wanted = s .args .wanted in
+    let e : c .before .need-of .result ≡ needFor (columns l) chart wanted (task l) (jobs l + last b) =
+    rw (← same b, ← upTo-ordered (s .pre .0) (s .args .priority .now) (d .before .before .before .before .horizon-at .result .0))
+    (rw (d .deadline-of .ensures) at (c .before .need-of .ensures)) in
+    let jump = needs-jump (columns l) (valid l) (task l) (s .pre .4) chart wanted (jobs l) (k l) (last b) (s .pre .1)
+    (reached b) (early b) in
+    (omega (arith, b .last-before .ensures .0), c .larger .ensures ∙ rw (jump, ← e, ← l .before .loop .inv .1))
 
 returns : tie.Need-returns Inv-loop μ-loop
 returns c =
@@ -156,7 +170,7 @@ returns c =
     let a = l .before .before .args in
     let q = orderedAt (a .sends .now) (a .period .now) (a .deadline .now) (a .priority .now) (a .tasks) (a .queue) in
     let e : l .loop .k ≡ a .ticks / q .period (a .task) = omega arith in
-    sym (rw e at (l .loop .inv .1 .1 e))
+    rw e at (l .loop .inv .1)
 
 pub row-slots-spec : {M : Type 1} → statement M
 row-slots-spec =
@@ -168,18 +182,19 @@ row-slots-spec =
     (λ c. search needs)
     div-jobs
     loop-holds
-    (λ c. omega (arith, jobs-small c))
+    (λ c. omega (arith, jobs-small c, c .loop-test .taken))
+    (λ c κs. omega (arith, within c (k c) (c .loop-test .taken)))
+    (λ c κs. start (c .before) .pre .1)
+    add-wanted
+    add-chart
+    last-before-requires
     (λ c. search needs)
     (λ c. search needs)
-    release-requires
-    outdated-requires
-    (λ c. search needs)
-    (λ c. search needs)
-    (λ c. search needs)
-    decides-requires
-    need-requires
+    (λ c. omega (arith, jobs-small (turn (c .before)), c .before .last-before .ensures .0))
+    (λ c κs. omega (arith, due-within (c .before)))
+    need-of-requires
     (λ c κs. search needs)
-    (λ c. omega (arith, jobs-small (c .before .before .before .before .before .before .before)))
-    (λ c. search needs)
+    (λ c. let b = c .before .before .before .before in omega (arith, jobs-small (turn b), b .last-before .ensures .0))
+    (λ c. let b = c .before .before .before .before in omega (arith, reached b, b .last-before .ensures .0))
     loop-again
     returns)

@@ -59,7 +59,6 @@ share-requires c κs =
       chart,
       rw (l .before .wanted-for .ensures q refl) (omega (arith, wanted-fits q (u .valid), chart)),
       taken,
-      u .periods-fit (l .loop .i) taken,
       k .pre .1,
     )
 
