@@ -31,13 +31,11 @@ fn near(piece: &[u8], from: usize) -> bool
 
 // Passes over whole strides that have no line feed, up to the first that has one or is cut short by the block's end.
 fn skip(piece: &[u8], from: usize) -> usize
+    requires { ⌜ from ≤ length (now piece) ⌝ }
     ensures { λ r. ⌜ r ≡ skipOf (now (piece .entry)) from ⌝ }
 {
     let mut i = from;
-    while i < piece.len() {
-        if piece.len() - i < STRIDE {
-            return i;
-        }
+    while STRIDE <= piece.len() - i {
         if near(piece, i) {
             return i;
         }
@@ -48,6 +46,7 @@ fn skip(piece: &[u8], from: usize) -> usize
 
 // The place of the first line feed from a place on, or the block's end.
 pub fn end_of(piece: &[u8], from: usize) -> usize
+    requires { ⌜ from ≤ length (now piece) ⌝ }
     ensures { λ r. ⌜ r ≡ endOf (now (piece .entry)) from ⌝ }
 {
     let mut i = skip(piece, from);
