@@ -1,6 +1,8 @@
 // What every program of the kit does around its own work: blocks of standard input come in, answers go out on standard output, and words
 // for a person on standard error. No contract can say what is read or written, so nothing else of a program stands here; .ci/programs
 // tests the built programs. Leans on the kit's io and libc.
+#![tactic(auto)]
+
 ghost use Rattle.std.specs.Prelude.{◌<◌, ◌≤◌, true, ◌≡◌, length};
 ghost use Rattle.blocks.specs.Stream.{Came, Gone, closed, most_blocks};
 

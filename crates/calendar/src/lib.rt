@@ -1,6 +1,8 @@
 // One task's calendar: its releases and deadlines, and the common multiple of two periods. Ticks, jobs, message numbers and slots are
 // counted from different places, so each has a type of its own wherever a function hands one on; so many ticks, messages or slots are
 // plain numbers. All functions are inner ones: they require what the crates above have tested.
+#![tactic(auto)]
+
 ghost use Rattle.common.specs.Words.{◌≡◌, ◌+◌, ◌<◌, ◌≤◌, ◌^◌, ◌/◌};
 ghost use Rattle.model.specs.Model.{Queue, receiver_deadline, wanted_for, count, has_deadline, released, due, gcd, lcm};
 ghost use Rattle.calendar.specs.Calendar.{tick, job, capped};

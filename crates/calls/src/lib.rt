@@ -1,5 +1,7 @@
 // Frames 04 and 05: a send or a receive, and the line that tells its answer. The columns of the plan and of the state are lent, so that a
 // caller keeps its desk where it lies; whether the plan is sound is the caller's to say.
+#![tactic(auto)]
+
 ghost use Rattle.common.specs.Words.{◌≡◌, true, List, ℕ, ◌≤◌, length};
 ghost use Rattle.plan.specs.Plan.{lent_plan};
 ghost use Rattle.plan.specs.Rules.{sound_plan};

@@ -1,5 +1,7 @@
 // The rows of a text that its table is made of: its threads, and the first connection to each receiving port. Leans on the dictionary of
 // queues that `index` built.
+#![tactic(auto)]
+
 ghost use Rattle.common.specs.Words.{◌≡◌, ◌*◌, ◌<◌, ◌≤◌, ◌++◌, ◌∷◌, [], ◌&&◌, List, ℕ, eqb, length};
 ghost use Rattle.rows.specs.Rows.{row_words, a_link};
 ghost use Rattle.index.specs.Index.{rows_in, Indexed};

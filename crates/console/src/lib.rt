@@ -1,5 +1,7 @@
 // The console, line by line: one step takes a line, any bytes of any length, does what it says to the desk and to the lent memory, and
 // writes at most one line.
+#![tactic(auto)]
+
 ghost use Rattle.common.specs.Words.{◌≡◌, ◌≤◌, length, take};
 ghost use Rattle.digits.specs.Hex.{most_bytes, decoded_into};
 ghost use Rattle.frames.specs.Answers.{longest_answer};

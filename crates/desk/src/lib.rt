@@ -1,5 +1,7 @@
 // The console's desk: the table so far, then the plan and the state of a run. Here a line's frame changes the desk as a whole: a row more,
 // or the table planned and started. Each function takes a turn of specs/Desk.antt.
+#![tactic(auto)]
+
 mod squares; // squares.rt: which task sends into which queue, from the sender masks
 mod table; // table.rt: frames 01 to 03, until a plan is accepted
 

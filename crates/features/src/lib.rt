@@ -1,4 +1,6 @@
 // Features of a thread type: its ports are declared, other features are skipped.
+#![tactic(auto)]
+
 ghost use Rattle.common.specs.Words.{◌≡◌};
 ghost use Rattle.steps.specs.Steps.{◌⟫◌};
 ghost use Rattle.steps.specs.Lifted.{lift};

@@ -4,6 +4,8 @@
 //
 // A desk is 2 KB, and by value it is copied at each call: the loop keeps it, with the columns of its state beside it, and lends them. It
 // remembers the window that a receive looked into for the next one.
+#![tactic(auto)]
+
 ghost use Rattle.common.specs.Words.{◌≡◌, ◌++◌, ◌-◌, ◌≤◌, length, take};
 ghost use Rattle.common.specs.Stores.{part};
 ghost use Rattle.digits.specs.Hex.{most_bytes};

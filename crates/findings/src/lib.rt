@@ -1,5 +1,7 @@
 // What reading a text comes to: its table, a refusal with its place, or no room. It leans on the plan's limits alone, so that what goes on
 // with a finding, in planning, in lines or in words, does not reach the reader.
+#![tactic(auto)]
+
 ghost use Rattle.common.specs.Words.{◌≡◌};
 ghost use Rattle.findings.specs.Findings.{number_of, rule_of, no_table};
 

@@ -1,4 +1,6 @@
 // From an AADL text to a plan: the reader's table goes through planning. A text of any bytes is answered, with any memory that is lent.
+#![tactic(auto)]
+
 ghost use Rattle.common.specs.Words.{length};
 ghost use Rattle.reader.specs.Reader.{enough};
 ghost use Rattle.imports.specs.Unique.{ImportGives};

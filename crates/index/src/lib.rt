@@ -1,5 +1,7 @@
 // A dictionary over the rows that a text declares: for a key, the first row that has it. It is a tree over the bits of the keys' hashes, in
 // memory that the caller lends, and answers after about as many steps as the number of rows has bits.
+#![tactic(auto)]
+
 ghost use Rattle.common.specs.Words.{◌≡◌, ◌+◌, ◌*◌, ◌<◌, ◌≤◌, length};
 ghost use Rattle.keys.specs.Keys.{meant};
 ghost use Rattle.rows.specs.Rows.{row_words};

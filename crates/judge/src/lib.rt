@@ -3,6 +3,8 @@
 // caller that keeps its plan needs to test it only once. What is reckoned for a test fits its type, because the tests before it have passed.
 // What sends and receives ask is lent the columns of a plan, all of them, because the contract is about the plan that they make (`lent_plan`),
 // and the column of a state that the test looks at.
+#![tactic(auto)]
+
 ghost use Rattle.common.specs.Words.{◌≡◌, true, ◌+◌, ◌-◌, ◌*◌, ◌≤◌, ltb, get_or};
 ghost use Rattle.plan.specs.Limits.{queue_limit, most_slots, slot_bytes};
 ghost use Rattle.plan.specs.Plan.{lent_plan};

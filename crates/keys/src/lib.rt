@@ -1,5 +1,7 @@
 // Keys of a dictionary of names: two numbers and three names, each a place of the plain text. Two keys are the same where their numbers
 // are and their names are spelled alike. Any place is taken: behind the text's end no name stands.
+#![tactic(auto)]
+
 ghost use Rattle.common.specs.Words.{◌≡◌, ◌<◌, get_or};
 ghost use Rattle.words.specs.Letters.{same};
 ghost use Rattle.keys.specs.Keys.{spelled, meant, same_meaning, name_byte, prime, Below, turned, stirred, named, hash_of};

@@ -1,5 +1,7 @@
 // The table of a text without a fault: a row for each thread in text order, and a queue for each receiving port in the order of the first
 // connection to it.
+#![tactic(auto)]
+
 ghost use Rattle.common.specs.Words.{◌≡◌, ◌<◌, suc, eqb};
 ghost use Rattle.common.specs.Table.{table};
 ghost use Rattle.rows.specs.Rows.{row_words};

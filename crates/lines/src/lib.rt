@@ -1,6 +1,8 @@
 // Lines out of blocks. A line that lies inside a block is used where it stands; a line that has not ended is carried over to the next
 // block in a buffer that the caller lends, of which the first `used` bytes are the carry. The console answers every line of over 100
 // bytes in one way, so 101 bytes are kept of a line and the rest is let go.
+#![tactic(auto)]
+
 ghost use Rattle.common.specs.Words.{◌≡◌, ◌+◌, ◌-◌, ◌≤◌, min, length};
 ghost use Rattle.common.specs.Stores.{part};
 ghost use Rattle.lines.specs.Lines.{carry_limit};

@@ -1,4 +1,6 @@
 // Connections of a process implementation: port connections between threads are declared, others are passed over.
+#![tactic(auto)]
+
 ghost use Rattle.common.specs.Words.{◌≡◌, ◌&&◌};
 ghost use Rattle.steps.specs.Lifted.{lift};
 ghost use Rattle.rows.specs.States.{state_of, does};

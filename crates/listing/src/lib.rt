@@ -1,4 +1,6 @@
 // What the program `table` writes, in digits: the console's lines of a table, or its refusal as a line.
+#![tactic(auto)]
+
 pub mod lines; // lines.rt: the lines of digits
 
 ghost use Rattle.common.specs.Words.{◌≡◌, ◌≤◌, min};

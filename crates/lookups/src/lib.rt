@@ -1,4 +1,6 @@
 // The three lookups: number, way back and window. They take any plan and any numbers, test rules 7, 9, then 11 or 15, and change nothing.
+#![tactic(auto)]
+
 ghost use Rattle.lookups.specs.Unique.{NumberGives, WayBackGives, WindowGives};
 
 use calendar::{Job, Number, Tick};

@@ -1,6 +1,8 @@
 // The mailbox: the running calls start, send and receive, over a plan, a state and slots in lent memory. Each call tests what it is handed
 // and answers; a refused call gives back state and memory as they were. What a call answers and leaves is reckoned in the crate `running`,
 // which is lent the column of the state that the call changes.
+#![tactic(auto)]
+
 pub mod start; // start.rt: the fresh state, and start
 pub mod send; // send.rt: send
 pub mod receive; // receive.rt: receive

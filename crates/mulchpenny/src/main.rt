@@ -1,6 +1,8 @@
 // Mulchpenny's console: answers each line of standard input on standard output. Input is read in blocks, and the answers to a block are
 // out before the next read, so that a person or a pipe sees each answer at once. What is done with a block is proved, by `feed` and
 // `console`; what is read and written no contract can say, and .ci/programs tests it.
+#![tactic(auto)]
+
 ghost use Rattle.common.specs.Words.{◌≡◌, ◌<◌, ◌≤◌, false, length, take};
 ghost use Rattle.desk.specs.Desk.{SoundDesk};
 ghost use Rattle.feed.specs.Feed.{enough};

@@ -1,4 +1,6 @@
 // Rules that declare nothing by themselves: classifiers, paths, directions, kinds of ports, what is skipped.
+#![tactic(auto)]
+
 ghost use Rattle.common.specs.Words.{◌≡◌};
 ghost use Rattle.steps.specs.Steps.{◌⟫◌, the, is, optional};
 ghost use Rattle.words.specs.Kinds.{OPEN-BRACE};

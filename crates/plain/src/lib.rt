@@ -1,5 +1,7 @@
 // The plain text: what the rules see of an AADL text, byte for byte as long as it is. Letters are small; a comment is blanks, a string its
 // first quote and blanks, an annex the letter A and blanks. Nothing here is refused.
+#![tactic(auto)]
+
 ghost use Rattle.common.specs.Words.{◌≡◌, ◌+◌, ◌-◌, ◌≤◌, ◌<◌, length, drop, get_or};
 ghost use Rattle.plain.specs.Plain.{lower, two, three, string_by, close_by, annex_rest, brace, begun, step_of, mark_rest, plain_of};
 ghost use Rattle.plain.specs.Close.{quote_width, ends_string, ended_by, last_close};

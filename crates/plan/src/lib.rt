@@ -1,5 +1,7 @@
 // A plan: the task table, which task sends into which queue, and where each queue's slots lie in memory.
 // It is plain data. It can be stored, copied and handed in altered, so every call tests it first (rule 7, the crate `soundness`).
+#![tactic(auto)]
+
 pub mod refusal; // refusal.rt: the rules that a call can break, and the refusal that it is answered with
 
 ghost use Rattle.common.specs.Words.{◌≡◌, true};

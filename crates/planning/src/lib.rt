@@ -1,4 +1,6 @@
 // Planning: from a task table to a plan with the least number of slots, or to the first refusal of rules 1 to 6.
+#![tactic(auto)]
+
 ghost use Rattle.common.specs.Words.{◌≡◌};
 ghost use Rattle.plan.specs.Refusals.{named};
 ghost use Rattle.plan.specs.Sound.{Checked};

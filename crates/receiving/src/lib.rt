@@ -1,5 +1,7 @@
 // Receive: a look at the receiver's next message, which changes nothing, and then a step on from the answer, which is the crate `stepping`.
 // The columns are lent, as to a send.
+#![tactic(auto)]
+
 ghost use Rattle.common.specs.Words.{◌≡◌, get_or};
 ghost use Rattle.plan.specs.Plan.{lent_plan};
 ghost use Rattle.plan.specs.Rules.{sound_plan};

@@ -1,4 +1,6 @@
 // Why an AADL text or its table is refused, in words for people.
+#![tactic(auto)]
+
 mod expected; // expected.rt: what was expected, in words
 mod found; // found.rt: what stands at a place
 mod planned; // planned.rt: planning's refusals in words

@@ -1,6 +1,8 @@
 // The running calls: what start, send and receive answer, and what they leave of the slots and of a state, is defined in specs/Calls.antt.
 // Here are the answers' types, and start; a send is the crate `sending`, a receive the crates `stepping` and `receiving`, and the state
 // itself the crate `mailbox`. Which bytes a receive's answer is about is defined in specs/View.antt, and shown by the crate `view`.
+#![tactic(auto)]
+
 pub mod start; // start.rt: start
 
 use calendar::{Number, Slot, Tick};

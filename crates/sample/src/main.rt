@@ -1,5 +1,7 @@
 // A sample for who writes the box's software: two receives of one chart job, from a task table to the bytes that the chart shows.
 // docs/LIBRARY.md goes through `main` line by line. It leans on planning, mailbox and view.
+#![tactic(auto)]
+
 use calendar::Tick;
 use libc::STDOUT_FILENO;
 use mailbox::State;

@@ -1,6 +1,8 @@
 // Send: a task's message into its slot, at most one for each job, and the job recorded in the state's column. A call is lent the columns of
 // a plan and the one column of a state that it changes, because a plan or a state by value would be copied for each line of the console; the
 // state's tick is handed in and comes back beside the answer.
+#![tactic(auto)]
+
 ghost use Rattle.common.specs.Words.{◌≡◌, true, ◌<◌, ◌≤◌};
 ghost use Rattle.calendar.specs.Calendar.{tick, message};
 ghost use Rattle.plan.specs.Limits.{last_tick};

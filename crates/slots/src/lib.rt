@@ -1,5 +1,7 @@
 // Slots in lent memory: the message number as 8 bytes, high byte first, then the payload. The functions are inner ones: callers have
 // tested that the slots lie inside the memory and that a payload is of full length.
+#![tactic(auto)]
+
 pub mod places; // places.rt: which slot is a message's
 
 ghost use Rattle.common.specs.Words.{◌≡◌, ◌+◌, ◌^◌, ◌≤◌, ◌<◌, length, sets};

@@ -1,4 +1,6 @@
 // Rule 7: what a plan that is handed in has to keep. Every call on a plan asks it first.
+#![tactic(auto)]
+
 pub mod square; // square.rt: which task sends into which queue, by rows
 
 ghost use Rattle.common.specs.Words.{◌≡◌, ◌≤◌};

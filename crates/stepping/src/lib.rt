@@ -1,5 +1,7 @@
 // The step on from what a look answers: what a receive leaves of a state's tick and of its column of reading places, as the crate `running`
 // defines it. An inner function: an answer that names a number has to be one that can be stepped on (`CanStep`), as every look's is.
+#![tactic(auto)]
+
 ghost use Rattle.common.specs.Words.{◌≡◌, ◌+◌, ◌<◌, ◌≤◌, set};
 ghost use Rattle.calendar.specs.Calendar.{tick};
 ghost use Rattle.plan.specs.Limits.{queue_limit};

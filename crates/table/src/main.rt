@@ -1,6 +1,8 @@
 // From an AADL text to the console's lines: standard input is the text, standard output the lines of its table or the line that refuses
 // it, and standard error the refusal in words. No contract can say what is read or written: all that matters is proved in `imports`,
 // `listing` and `report`. Where more comes than a text may have, one byte of it is read, which tells; the rest is left.
+#![tactic(auto)]
+
 use blocks::Stream;
 use findings::Table;
 use frames::answers::write_refusal;

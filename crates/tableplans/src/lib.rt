@@ -1,5 +1,7 @@
 // What reading a text came to, with what planning makes of its table. It leans on the reader's findings and on planning, and not on the
 // reader: to prove it, nothing that reads a text is loaded.
+#![tactic(auto)]
+
 ghost use Rattle.common.specs.Words.{◌≡◌};
 ghost use Rattle.tableplans.specs.TablePlans.{planned, planning_says, unplanned, with_plan, import_by};
 

@@ -1,4 +1,6 @@
 // A whole text: packages and declarations up to its end.
+#![tactic(auto)]
+
 ghost use Rattle.common.specs.Words.{◌≡◌, ◌&&◌, eqb};
 ghost use Rattle.words.specs.Kinds.{PROCESS, IMPLEMENTATION};
 ghost use Rattle.steps.specs.Steps.{◌⟫◌};

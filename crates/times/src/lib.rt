@@ -1,4 +1,6 @@
 // Times, a number and a unit in whole ticks; and priorities, a number without a point.
+#![tactic(auto)]
+
 pub mod priorities; // priorities.rt: priorities
 
 ghost use Rattle.common.specs.Words.{◌≡◌, ◌-◌, ◌≤◌, ◌<◌, ◌&&◌, length};

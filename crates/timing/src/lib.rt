@@ -1,6 +1,8 @@
 // Whether a tick suits the state and the running job: rules 11, 10, 12 and 13, in the order in which document 01 has them. They are the last
 // tests of a send and of a receive, and inner functions: what is reckoned here fits its type, because the caller has tested the plan that
 // period and deadline are of, and line 11 comes first.
+#![tactic(auto)]
+
 ghost use Rattle.common.specs.Words.{◌≡◌, ◌≤◌};
 ghost use Rattle.calendar.specs.Calendar.{tick};
 ghost use Rattle.plan.specs.Limits.{longest_period, last_tick};

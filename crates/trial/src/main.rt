@@ -1,6 +1,8 @@
 // The library's functions on tables, plans, states and memory in plain text, good and damaged ones. What the library answers is
 // printed, so that it can be compared with what the independent program reckons for the same text. Nothing here decides: the answers
 // are the library's, and all that is proved of this program is that it is safe and ends. second/calls.rs lists the commands.
+#![tactic(auto)]
+
 mod run; // run.rt: the lines on a state and the memory
 mod table; // table.rt: the lines on a table and its plan
 mod text; // text.rt: words and numbers

@@ -1,4 +1,6 @@
 // Values of properties, associations and blocks of them, skipped: where each ends, whatever the text.
+#![tactic(auto)]
+
 ghost use Rattle.common.specs.Words.{◌≡◌};
 ghost use Rattle.steps.specs.Steps.{◌⟫◌};
 ghost use Rattle.steps.specs.Lifted.{lift};

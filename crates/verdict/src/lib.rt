@@ -1,4 +1,6 @@
 // What a text that was read to its end is judged by: each row that was declared, for itself. The fault at the least place is kept.
+#![tactic(auto)]
+
 ghost use Rattle.common.specs.Words.{◌≡◌, ◌*◌, ◌<◌, ◌≤◌, ◌&&◌, length};
 ghost use Rattle.steps.specs.Faults.{worst};
 ghost use Rattle.rows.specs.Rows.{row_words};

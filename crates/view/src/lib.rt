@@ -1,4 +1,6 @@
 // The view of a receive answer: 24 bytes without copying. It knows no plan and compares no number; the answer says all.
+#![tactic(auto)]
+
 ghost use Rattle.view.specs.Unique.{ViewGives};
 
 use plan::Plan;

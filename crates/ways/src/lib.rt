@@ -1,5 +1,7 @@
 // Which declaration a name means, and the way from a thread's type to the types that this one extends: 8 types at most, along which its
 // properties and its ports are looked for. The type above each row is found once and kept, in memory that the caller lends.
+#![tactic(auto)]
+
 ghost use Rattle.common.specs.Words.{◌≡◌, ◌*◌, ◌<◌, ◌≤◌, ℕ, ◌∷◌, length, get_or};
 ghost use Rattle.keys.specs.Keys.{key};
 ghost use Rattle.rows.specs.Rows.{row_words, a_port};

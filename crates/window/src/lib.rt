@@ -1,6 +1,8 @@
 // The window of a receiver's job, from the columns of a plan: its ticks and numbers, the number to read next, and the sender of a number
 // that lies in it. A job reads its window by many calls, so a caller may remember the window from one to the next. All functions are inner
 // ones: callers have tested the plan (`Lent`) and stay within the last tick.
+#![tactic(auto)]
+
 ghost use Rattle.common.specs.Words.{◌≡◌, ◌+◌, ◌-◌, ◌^◌, ◌<◌, ◌≤◌, max};
 ghost use Rattle.model.specs.Model.{released, up_to, sender_of};
 ghost use Rattle.calendar.specs.Calendar.{tick, message};

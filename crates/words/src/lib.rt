@@ -1,4 +1,6 @@
 // Words of an AADL text: the number of a word in the list of words, found by a sum over its letters and one comparison.
+#![tactic(auto)]
+
 pub mod kinds; // kinds.rt: the kinds of tokens
 
 ghost use Rattle.common.specs.Words.{◌≡◌, ◌+◌, ◌-◌, ◌≤◌, ◌<◌, length, get_or};
