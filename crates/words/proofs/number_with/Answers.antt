@@ -5,8 +5,7 @@ use Rattle.common.specs.Table.{table, table_at}
 use Rattle.words.specs.Letters.{words_by}
 use Rattle.words.specs.Words.{listed}
 use Rattle.words.specs.Found.{sum_by, number_by, number_with}
-use Rattle.words.proofs.number_with.Statement.{statement}
-use Rattle.words.proofs.number_with.Tie as tie
+use Rattle.words.proofs.number_with.Goals as goal
 
 all_low : every (λ s. ltb (number_with s) 82) 385 ≡ true
 unfolding every sum_by number_by words_by listed
@@ -21,17 +20,14 @@ over r n e = omega arith
 less : (r n : ℕ) → r ≡ 35 + n → n < 82 → (r - 35 ≡ n) × (r - 35 < 82)
 less r n e l = (omega arith, omega arith)
 
-sub-result : tie.Need-overflow-sub-result
+pub overflow_sub-result : goal.overflow_sub-result
 unfolding table sum_by number_by words_by listed
-sub-result c =
-    let s = c.before.args.sum in
-    over _ (number_with s) (c.wide.ensures.0 ∙ table_at (λ (s : ℕ). 35 + number_with s) 385 s 0 c.before.requires)
+overflow_sub-result c =
+    let s = c.args.sum in
+    over _ (number_with s) (c.wide.ensures.0 ∙ table_at (λ (s : ℕ). 35 + number_with s) 385 s 0 c.requires)
 
-returns : tie.Need-returns
+pub returns : goal.returns
 unfolding table sum_by number_by words_by listed
 returns c =
-    let s = c.before.args.sum in
-    less _ (number_with s) (c.wide.ensures.0 ∙ table_at (λ (s : ℕ). 35 + number_with s) 385 s 0 c.before.requires) (low s c.before.requires)
-
-pub number_with_spec : {M : Type 1} → statement M
-number_with_spec = tie.close (tie.spec (λ c. search rules) (λ c κs. search rules) sub-result returns)
+    let s = c.args.sum in
+    less _ (number_with s) (c.wide.ensures.0 ∙ table_at (λ (s : ℕ). 35 + number_with s) 385 s 0 c.requires) (low s c.requires)

@@ -1,0 +1,29 @@
+-- `words::sum_of`: what is left to sum gives the whole.
+use Rattle.common.specs.Words.{rules, ◌≡◌, refl, sym, ◌∙◌, ◌+◌, ◌-◌, ◌*◌, ◌%◌, ◌≤◌, ◌<◌, arith, mod-lt, length, get_or}
+use Rattle.common.specs.Stores.{part, part_cons}
+use Rattle.words.specs.Found.{sum_by}
+use Rattle.words.proofs.sum_of.Goals as goal
+
+pub loop-i-init : goal.loop-i-init
+loop-i-init c = (refl, search rules, search rules, search rules)
+
+pub loop-i-preserved : goal.loop-i-preserved
+unfolding sum_by
+loop-i-preserved c =
+    let l = c in
+    let t = l.args.text.now in
+    let e = l.args.end in
+    let i = l.loop-i.i in
+    let n : e - i - 1 ≡ e - (i + 1) = omega arith in (
+      rw c.wide.ensures.0 (rw (part_cons t i (e - i) (search rules) (search rules), n) at l.loop-i.invariant.0),
+      search rules,
+      search rules,
+      mod-lt _ (search rules),
+    )
+
+pub returns : goal.returns
+unfolding sum_by
+returns c =
+    let l = c in
+    let z : l.args.end - l.loop-i.i ≡ 0 = search rules in
+    (rw z at l.loop-i.invariant.0, search rules)
