@@ -1,6 +1,6 @@
 -- `console::act`: a frame that changes the table, or a call on what the desk holds.
 use Rattle.common.specs.Words.{rules}
-use Rattle.common.specs.Tests.{failed, passed}
+use Rattle.common.specs.Tests.{as_tested}
 use Rattle.window.specs.Window.{remembers_nothing}
 use Rattle.console.specs.CallLines.{turn_left}
 use Rattle.console.proofs.act.Statement.{statement}

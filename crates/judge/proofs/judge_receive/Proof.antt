@@ -1,6 +1,6 @@
 -- `judge_receive`: the lines before the receiver's own, of a plan whose columns were lent.
 use Rattle.common.specs.Words.{◌<◌, true, refl, arith, rules, lt-ltb, le-ltb, ◌≡◌}
-use Rattle.common.specs.Tests.{passed}
+use Rattle.common.specs.Tests.{as_tested}
 use Rattle.model.specs.Model.{Queue}
 use Rattle.plan.specs.Limits.{task_limit}
 use Rattle.plan.specs.Plan.{lent_plan, queue_at, Usable}

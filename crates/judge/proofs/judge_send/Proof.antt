@@ -1,6 +1,6 @@
 -- `judge_send`: the lines before the job's own, of a plan whose columns were lent.
 use Rattle.common.specs.Words.{◌<◌, ◌+◌, ◌*◌, true, rules, arith, eq-eqb, ne_eqb, ◌≡◌}
-use Rattle.common.specs.Tests.{passed}
+use Rattle.common.specs.Tests.{as_tested}
 use Rattle.plan.specs.Limits.{queue_limit}
 use Rattle.plan.specs.Plan.{lent_plan}
 use Rattle.plan.specs.Rules.{sound_plan}

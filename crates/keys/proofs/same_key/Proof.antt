@@ -1,6 +1,6 @@
 -- `keys::same_key`: part by part, as the definition compares them.
 use Rattle.common.specs.Words.{rules, eq-eqb}
-use Rattle.common.specs.Tests.{tests, failed, passed}
+use Rattle.common.specs.Tests.{tests, as_tested}
 use Rattle.keys.specs.Keys.{meant, same_meaning}
 use Rattle.keys.proofs.same_key.Statement.{statement}
 use Rattle.keys.proofs.same_key.Tie as tie

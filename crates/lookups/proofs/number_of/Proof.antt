@@ -6,7 +6,7 @@ use Rattle.plan.specs.Rules.{sound_plan, connected}
 use Rattle.plan.specs.declared.Plan.{Plan}
 use Rattle.plan.specs.Sound.{sound_iff, usable}
 use Rattle.lookups.specs.Lookups.{numbered_of}
-use Rattle.common.specs.Tests.{failed, passed}
+use Rattle.common.specs.Tests.{as_tested}
 use Rattle.plan.specs.Facts.{connected_iff}
 use Rattle.lookups.proofs.number_of.Statement.{statement}
 use Rattle.lookups.proofs.number_of.Tie as tie

@@ -2,7 +2,7 @@
 use Rattle.common.specs.Words.{rules, pos_of_ne-zero, arith, le-ltb, lt-ltb, eq-eqb, ne_eqb}
 use Rattle.plan.specs.Sound.{sound_iff, usable}
 use Rattle.lookups.specs.Lookups.{origins_of}
-use Rattle.common.specs.Tests.{failed, passed}
+use Rattle.common.specs.Tests.{as_tested}
 use Rattle.lookups.proofs.way_back.Statement.{statement}
 use Rattle.lookups.proofs.way_back.Tie as tie
 

@@ -2,7 +2,7 @@
 use Rattle.common.specs.Words.{rules, sym, ◌∙◌, ltb-false, le-ltb, lt-ltb}
 use Rattle.plan.specs.Sound.{sound_iff, usable}
 use Rattle.lookups.specs.Lookups.{window_of}
-use Rattle.common.specs.Tests.{failed, passed}
+use Rattle.common.specs.Tests.{as_tested}
 use Rattle.lookups.proofs.window_of.Statement.{statement}
 use Rattle.lookups.proofs.window_of.Tie as tie
 

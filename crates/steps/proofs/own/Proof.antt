@@ -1,6 +1,6 @@
 -- `steps::own`.
 use Rattle.common.specs.Words.{rules, ◌≡◌, ◌∙◌, arith, true, false}
-use Rattle.common.specs.Tests.{failed, passed}
+use Rattle.common.specs.Tests.{as_tested}
 use Rattle.tokens.specs.Tokens.{from}
 use Rattle.tokens.specs.Spots.{token_of}
 use Rattle.steps.specs.Steps.{head}

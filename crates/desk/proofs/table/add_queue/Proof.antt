@@ -1,6 +1,6 @@
 -- `desk::table::add_queue`: by whether the table takes a row more.
 use Rattle.common.specs.Words.{rules, ◌<◌, refl}
-use Rattle.common.specs.Tests.{failed, passed}
+use Rattle.common.specs.Tests.{as_tested}
 use Rattle.plan.specs.Limits.{queue_limit}
 use Rattle.desk.specs.Desk.{with_queue}
 use Rattle.desk.specs.Turns.{room_for, row_refused, row_added}

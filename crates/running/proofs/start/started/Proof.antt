@@ -1,6 +1,6 @@
 -- `start::started`: rule 7, and then by the verdict on 8.
 use Rattle.common.specs.Words.{List, ℕ, refl, sym, rules}
-use Rattle.common.specs.Tests.{failed, passed}
+use Rattle.common.specs.Tests.{as_tested}
 use Rattle.plan.specs.Refusals.{unnamed}
 use Rattle.plan.specs.declared.refusal.Rule.TheVariants.{UnsoundPlan}
 use Rattle.judge.specs.Taken.{Ground, slots_end, slots_fit, ground_clear}
