@@ -1,0 +1,63 @@
+-- `tokens::number_end`: the digits, and those behind a point.
+use Rattle.common.specs.Words.{rules, ◌≡◌, sym, ap, ◌∙◌, ◌+◌, ◌≤◌, arith, length, drop, drop-drop, get_or, get_or-drop}
+use Rattle.common.specs.Tests.{tests}
+use Rattle.tokens.specs.Tokens.{sort_of, run, underscore, digit, number_width}
+use Rattle.tokens.specs.Laws.{past_le, number_plain, number_ends, number_goes}
+use Rattle.tokens.proofs.number_end.Goals as goal
+
+pub past-end-requires : goal.past-end-requires
+unfolding number_width
+past-end-requires c = search rules
+
+pub byte_at-requires : goal.byte_at-requires
+unfolding number_width
+byte_at-requires c = search rules
+
+pub returns-then-byte_at-ne46 : goal.returns-then-byte_at-ne46
+unfolding number_width
+returns-then-byte_at-ne46 c =
+    let k = c in
+    let a = k.args in
+    number_plain a.text.now a.at k.past-end.result k.past-end.ensures (rw (← c.byte_at.ensures) c.if-byte_at-ne46.true)
+
+pub overflow_add-end : goal.overflow_add-end
+unfolding number_width
+overflow_add-end c =
+    let k = c in let a = k.args in
+    omega (arith, k.past-end.ensures, past_le a.text.now 3 4 a.at (search rules))
+
+pub byte_at-requires-2 : goal.byte_at-requires-2
+unfolding number_width
+byte_at-requires-2 c = search rules
+
+pub sort_of-requires : goal.sort_of-requires
+unfolding number_width
+sort_of-requires c = search rules
+
+pub returns-then-sort_of-ne-DIGIT : goal.returns-then-sort_of-ne-DIGIT
+unfolding number_width
+returns-then-sort_of-ne-DIGIT c =
+    let k = c in
+    let a = k.args in
+    number_ends a.text.now a.at k.past-end.result k.past-end.ensures
+    (rw (← c.byte_at-2.ensures, ← c.sort_of.ensures) c.if-sort_of-ne-DIGIT.true)
+
+pub overflow_add-end-2 : goal.overflow_add-end-2
+unfolding number_width
+overflow_add-end-2 c =
+    let k = c in let a = k.args in
+    omega (arith, k.past-end.ensures, past_le a.text.now 3 4 a.at (search rules))
+
+pub past-requires : goal.past-requires
+unfolding number_width
+past-requires c = search rules
+
+pub returns : goal.returns
+unfolding number_width
+returns c =
+    let k = c in
+    let a = k.args in
+    let b = c in
+    c.past.ensures ∙ number_goes a.text.now a.at k.past-end.result k.past-end.ensures
+    (rw (← b.byte_at.ensures) b.if-byte_at-ne46.false)
+    (rw (← b.byte_at-2.ensures, ← c.sort_of.ensures) c.if-sort_of-ne-DIGIT.false)

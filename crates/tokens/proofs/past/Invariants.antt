@@ -1,0 +1,11 @@
+-- `tokens::past`: the run from here on ends where the whole does.
+use Rattle.common.specs.Words.{rules, ◌≡◌, refl, sym, ◌∙◌, ◌+◌, ◌-◌, ◌≤◌, arith, length, drop}
+use Rattle.tokens.specs.Tokens.{run}
+use Rattle.tokens.specs.Laws.{run_none, run_below, run_above, run_more}
+use Rattle.tokens.proofs.past.Given as goal
+
+abbrev pub invariant-loop-i : goal.invariant-loop-i
+invariant-loop-i l = (l.i + run l.low l.high (drop l.i l.text) ≡ l.at + run l.low l.high (drop l.at l.text)) × (l.at ≤ l.i)
+
+abbrev pub decreases-loop-i : goal.decreases-loop-i
+decreases-loop-i l = length l.text - l.i
