@@ -1,12 +1,12 @@
 // What every program of the kit does around its own work: blocks of standard input come in, answers go out on standard output, and words
 // for a person on standard error. No contract can say what is read or written, so nothing else of a program stands here; .ci/programs
-// tests the built programs. Leans on the kit's io and libc.
+// tests the built programs. Leans on std's three streams alone.
 #![tactic(auto)]
 
 ghost use Rattle.std.specs.Prelude.{◌<◌, ◌≤◌, true, ◌≡◌, length};
 ghost use Rattle.blocks.specs.Stream.{Came, Gone, closed, most_blocks};
 
-use libc::{STDERR_FILENO, STDIN_FILENO, STDOUT_FILENO};
+use std::io::{Read, Stderr, Stdin, Stdout};
 
 // Whether a program has to go on. Its fields are this crate's own, so that only a read that gave nothing and a write that failed close a
 // stream: a program whose contract asks for a closed one cannot give up before. A proved loop has to end, and nothing says that the
@@ -43,15 +43,14 @@ impl Stream {
 
     // Reads what there is, once; nothing comes at the end of the input. It does not wait for a full block, so that a person or a pipe
     // has the answer to a line before the next one is asked for.
-    pub fn read_block(self, block: &mut [u8]) -> Reading
+    pub fn read_block(self, mut stdin: Stdin, block: &mut [u8]) -> Reading
         requires { 0 < length block.old }
         ensures { Came self (length block.old) result }
     {
         if self.left == 0 {
             return self.ended();
         }
-        let got = libc::read(STDIN_FILENO, block);
-        let bytes = io::count(got, block);
+        let bytes = stdin.read(block).unwrap_or(0);
         if bytes == 0 {
             return self.ended();
         }
@@ -86,11 +85,11 @@ impl Stream {
     }
 
     // Writes the first `written` bytes of a buffer. Where they cannot be written nobody reads them any more, and the stream is closed.
-    pub fn write_answers(self, out: &[u8], written: usize) -> Stream
+    pub fn write_answers(self, stdout: Stdout, out: &[u8], written: usize) -> Stream
         requires { written ≤ length out.now }
         ensures { Gone self result }
     {
-        if io::write_all(STDOUT_FILENO, &out[..written]) {
+        if stdout.write_all(&out[..written]).is_ok() {
             return self;
         }
         self.closed()
@@ -98,8 +97,8 @@ impl Stream {
 }
 
 // The first `written` bytes of a buffer, for a person. Nothing depends on whether they could be written.
-pub fn write_words(words: &[u8], written: usize)
+pub fn write_words(stderr: Stderr, words: &[u8], written: usize)
     requires { written ≤ length words.now }
 {
-    io::write_all(STDERR_FILENO, &words[..written]);
+    let _ = stderr.write_all(&words[..written]);
 }
