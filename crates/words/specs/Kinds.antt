@@ -1,5 +1,5 @@
 -- Kinds of tokens. A byte by itself is its own kind; a word's is its number in the list of words (`kinds_are`).
-use Rattle.common.specs.Words.{ℕ, List, [], ◌∷◌, ◌++◌, map, ◌≡◌, refl}
+use Rattle.common.specs.Words.{ℕ, [], ◌∷◌, ◌++◌, map, ◌≡◌, refl}
 use Rattle.words.specs.Letters.{letters, words_by, same}
 use Rattle.words.specs.Words.{listed, rank, kind_of}
 

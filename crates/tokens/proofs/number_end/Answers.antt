@@ -1,7 +1,6 @@
 -- `tokens::number_end`: the digits, and those behind a point.
-use Rattle.common.specs.Words.{rules, ◌≡◌, sym, ap, ◌∙◌, ◌+◌, ◌≤◌, arith, length, drop, drop-drop, get_or, get_or-drop}
-use Rattle.common.specs.Tests.{tests}
-use Rattle.tokens.specs.Tokens.{sort_of, run, underscore, digit, number_width}
+use Rattle.common.specs.Words.{rules, ◌∙◌, arith}
+use Rattle.tokens.specs.Tokens.{number_width}
 use Rattle.tokens.specs.Laws.{past_le, number_plain, number_ends, number_goes}
 use Rattle.tokens.proofs.number_end.Goals as goal
 

@@ -1,6 +1,5 @@
 -- `tokens::past`: the run from here on ends where the whole does.
-use Rattle.common.specs.Words.{rules, ◌≡◌, refl, sym, ◌∙◌, ◌+◌, ◌-◌, ◌≤◌, arith, length, drop}
-use Rattle.tokens.specs.Tokens.{run}
+use Rattle.common.specs.Words.{rules, refl, arith}
 use Rattle.tokens.specs.Laws.{run_none, run_below, run_above, run_more}
 use Rattle.tokens.proofs.past.Goals as goal
 

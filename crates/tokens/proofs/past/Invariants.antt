@@ -1,7 +1,6 @@
 -- `tokens::past`: the run from here on ends where the whole does.
-use Rattle.common.specs.Words.{rules, ◌≡◌, refl, sym, ◌∙◌, ◌+◌, ◌-◌, ◌≤◌, arith, length, drop}
+use Rattle.common.specs.Words.{◌≡◌, ◌+◌, ◌-◌, ◌≤◌, length, drop}
 use Rattle.tokens.specs.Tokens.{run}
-use Rattle.tokens.specs.Laws.{run_none, run_below, run_above, run_more}
 use Rattle.tokens.proofs.past.Given as goal
 
 abbrev pub invariant-loop-i : goal.invariant-loop-i

@@ -1,7 +1,6 @@
 -- `tokens::shape_at`: by the sort of the first byte.
-use Rattle.common.specs.Words.{rules, ◌≡◌, sym, ap, ◌∙◌, ◌+◌, ◌-◌, ◌≤◌, arith, length, drop, get_or, get_or-drop, add-zero}
-use Rattle.common.specs.Tests.{tests}
-use Rattle.tokens.specs.Tokens.{sort_of, run, letter, digit, shape_of, word_shape}
+use Rattle.common.specs.Words.{rules, sym, ◌∙◌, arith}
+use Rattle.tokens.specs.Tokens.{shape_of, word_shape}
 use Rattle.tokens.specs.Laws.{past_le, shape_word, shape_number, shape_sign}
 use Rattle.tokens.proofs.shape_at.Goals as goal
 

@@ -1,5 +1,5 @@
 -- `tokens::spot_at`: the end, or the token behind the blanks.
-use Rattle.common.specs.Words.{rules, ◌≡◌, ap, ◌+◌, ◌<◌, arith, length, drop, length-drop}
+use Rattle.common.specs.Words.{rules, ap, arith, drop, length-drop}
 use Rattle.tokens.specs.declared.Shape.{Shape}
 use Rattle.tokens.specs.Laws.{shape_fits, stands_end, stands_token}
 use Rattle.tokens.proofs.spot_at.Goals as goal

@@ -1,6 +1,5 @@
 -- `words::alike`: what is left to compare decides.
-use Rattle.common.specs.Words.{rules, ◌≡◌, refl, sym, ◌∙◌, ◌+◌, ◌-◌, ◌≤◌, arith, length}
-use Rattle.common.specs.Stores.{part}
+use Rattle.common.specs.Words.{rules, ◌≡◌, sym, ◌∙◌, ◌+◌, ◌-◌, arith}
 use Rattle.words.specs.Letters.{same, same_differ, same_more}
 use Rattle.words.proofs.alike.Goals as goal
 

@@ -1,7 +1,7 @@
 -- `words::alike`: what is left to compare decides.
-use Rattle.common.specs.Words.{rules, ◌≡◌, refl, sym, ◌∙◌, ◌+◌, ◌-◌, ◌≤◌, arith, length}
+use Rattle.common.specs.Words.{◌≡◌, ◌+◌, ◌-◌, ◌≤◌}
 use Rattle.common.specs.Stores.{part}
-use Rattle.words.specs.Letters.{same, same_differ, same_more}
+use Rattle.words.specs.Letters.{same}
 use Rattle.words.proofs.alike.Given as goal
 
 abbrev pub invariant-loop-j : goal.invariant-loop-j

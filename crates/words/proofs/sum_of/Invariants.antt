@@ -1,6 +1,6 @@
 -- `words::sum_of`: what is left to sum gives the whole.
-use Rattle.common.specs.Words.{rules, ◌≡◌, refl, sym, ◌∙◌, ◌+◌, ◌-◌, ◌*◌, ◌%◌, ◌≤◌, ◌<◌, arith, mod-lt, length, get_or}
-use Rattle.common.specs.Stores.{part, part_cons}
+use Rattle.common.specs.Words.{◌≡◌, ◌-◌, ◌≤◌, ◌<◌}
+use Rattle.common.specs.Stores.{part}
 use Rattle.words.specs.Found.{sum_by}
 use Rattle.words.proofs.sum_of.Given as goal
 
