@@ -1,7 +1,7 @@
 -- Laws of rules: rules in a row, choices and loops as the code takes them, and that a rule goes on by as many tokens as it reads.
 use Rattle.common.specs.Words.{ℕ, zero, suc, ◌+◌, ◌<◌, ◌≤◌, arith, Bool, true, false, true≢false, cond, List}
 use Rattle.common.specs.Words.{[], ◌∷◌, ◌≡◌, refl, sym, ap, ◌∙◌}
-use Rattle.common.specs.Words.{eqb, leb, eqb-true, leb-true, eq-eqb, ne_eqb, length, drop, drop-drop, length-drop}
+use Rattle.common.specs.Words.{eqb, eqb-true, leb-true, eq-eqb, ne_eqb, length, drop, drop-drop, length-drop}
 use Rattle.words.specs.Words.{is_name, first_name}
 use Rattle.words.specs.Letters.{same}
 use Rattle.words.specs.Kinds.{ENDED, THREAD, PORT, ARROW, DELAYING}
@@ -9,7 +9,7 @@ use Rattle.tokens.specs.Tokens.{Token, from}
 use Rattle.tokens.specs.Laws.{either, cases, start_of, from_first}
 use Rattle.steps.specs.declared.Fault.{Fault}
 use Rattle.steps.specs.declared.Went.{Went}
-use Rattle.steps.specs.Steps.{Step, On, Stop, ◌⟫◌, head, next, is, named, unfit, any, the, name, own, optional, many_by, many}
+use Rattle.steps.specs.Steps.{Step, On, Stop, ◌⟫◌, head, next, is, any, the, name, own, optional, many_by, many}
 use Rattle.steps.specs.Lifted.{lift, first, first_kind, holds, size}
 
 -- rules in a row

@@ -2,7 +2,7 @@
 use Rattle.common.specs.Words.{ℕ, Bool, false, List, suc, length}
 use Rattle.tokens.specs.Tokens.{Token, from}
 use Rattle.steps.specs.declared.Went.{Went}
-use Rattle.steps.specs.Steps.{Step, nothing, head, next, second}
+use Rattle.steps.specs.Steps.{Step, nothing, head, second}
 
 -- a place as the tokens from it on
 abbrev pub lift : List ℕ → Went → Step

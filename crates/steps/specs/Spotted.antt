@@ -1,5 +1,5 @@
 -- The rules of one token at a token that the code has found.
-use Rattle.common.specs.Words.{ℕ, ◌-◌, arith, Bool, false, cond, ◌<◌, ◌≤◌, List, length, ◌≡◌, ap, eqb, eq-eqb, ne_eqb, le-leb, lt-leb}
+use Rattle.common.specs.Words.{ℕ, ◌-◌, arith, Bool, false, cond, ◌<◌, ◌≤◌, List, length, ◌≡◌, ap, eq-eqb, ne_eqb, le-leb, lt-leb}
 use Rattle.words.specs.Words.{first_name, NAME}
 use Rattle.words.specs.Kinds.{ENDED}
 use Rattle.common.specs.Stores.{part, part_length}
@@ -9,7 +9,7 @@ use Rattle.tokens.specs.Tokens.{Token, from}
 use Rattle.tokens.specs.Spots.{Stands, token_of, behind}
 use Rattle.tokens.specs.declared.Spot.{Spot}
 use Rattle.steps.specs.Faults.{fault}
-use Rattle.steps.specs.Steps.{Step, On, Stop, any, the, name, own, its_own}
+use Rattle.steps.specs.Steps.{On, Stop, any, the, name, own, its_own}
 
 module _ (p : List ℕ) (at : ℕ) (s : Spot) (here : Stands p at s) where
   pub any_end : s.kind ≡ ENDED → On (from p at) ≡ any (from p at)

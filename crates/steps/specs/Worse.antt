@@ -1,10 +1,10 @@
 -- Laws of the least fault: it is one of those that it is taken from, none of them lies before it, and it does not matter how they are grouped.
-use Rattle.common.specs.Words.{ℕ, ◌<◌, ◌≤◌, arith, Bool, true, false, true≢false, pos_of_ne-zero, cond, List, [], ◌∷◌}
-use Rattle.common.specs.Words.{◌++◌, ◌⊎◌, inl, inr, ⊎_elim, ◌≡◌, refl, sym, ap, ◌∙◌}
+use Rattle.common.specs.Words.{◌<◌, ◌≤◌, arith, Bool, true, false, true≢false, pos_of_ne-zero, cond, List, [], ◌∷◌}
+use Rattle.common.specs.Words.{◌⊎◌, inl, inr, ⊎_elim, ◌≡◌, refl, sym, ap, ◌∙◌}
 use Rattle.common.specs.Words.{eqb, ltb, lt-ltb, le-ltb, eq-eqb, ne_eqb, eqb-true, eqb-false, ltb-true, ltb-false}
 use Rattle.common.specs.Tests.{lt_or_le, true_or_false, clash}
 use Rattle.steps.specs.declared.Fault.{Fault}
-use Rattle.steps.specs.Faults.{fault, no_fault, worse, worst}
+use Rattle.steps.specs.Faults.{no_fault, worse, worst}
 
 -- a fault that is there and lies before another, or at its place with a lower number; any lies before none
 unfoldable pub before : Fault → Fault → Bool

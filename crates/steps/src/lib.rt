@@ -15,7 +15,7 @@ use words::alike;
 use words::kinds::{ENDED, FIRST_NAME, NAME};
 
 // A refusal: its number, its place, and what was expected there or what is wrong; number 0 says that there is none.
-#[derive(Drop)]
+#[derive(Clone, Copy)]
 pub struct Fault {
     pub number: usize,
     pub place: usize,
@@ -24,7 +24,7 @@ pub struct Fault {
 
 // What a rule says: it went to a place, past what it reads, or it stopped at a fault. Each rule takes what the rule before it said, and
 // where that stopped hands it on.
-#[derive(Drop)]
+#[derive(Clone, Copy)]
 pub enum Went {
     To(usize),
     Stopped(Fault),

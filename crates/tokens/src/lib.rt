@@ -9,7 +9,7 @@ use words::kinds::{ADDS, ARROW, BECOMES, BOTH_WAYS, DELAYING, DOTS, ENDED, NUMBE
 use words::{byte_at, wide, word_kind};
 
 // The token at a place: its kind, the place of its first byte and the place behind its last.
-#[derive(Drop)]
+#[derive(Clone, Copy)]
 pub struct Spot {
     pub kind: usize,
     pub start: usize,
@@ -17,7 +17,7 @@ pub struct Spot {
 }
 
 // A token's kind, and how many bytes it has.
-#[derive(Drop)]
+#[derive(Clone, Copy)]
 pub struct Shape {
     pub kind: usize,
     pub width: usize,
