@@ -96,6 +96,21 @@ impl Stream {
     }
 }
 
+// Reads the input from its start into a buffer, until it ends or the buffer is full, and answers how many bytes came.
+pub fn read_text(mut stdin: Stdin, text: &mut [u8]) -> usize
+    ensures { result ≤ length text.new }
+{
+    let mut done = 0;
+    while done < text.len() {
+        let n = stdin.read(&mut text[done..]).unwrap_or(0);
+        if n == 0 {
+            break;
+        }
+        done += n;
+    }
+    done
+}
+
 // The first `written` bytes of a buffer, for a person. Nothing depends on whether they could be written.
 pub fn write_words(stderr: Stderr, words: &[u8], written: usize)
     requires { written ≤ length words.now }

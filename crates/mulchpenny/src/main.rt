@@ -13,8 +13,12 @@ ghost use Rattle.mulchpenny.specs.Block.{BlockGives, LastGives};
 use blocks::Stream;
 use desk::Desk;
 use plan::Plan;
+use std::io::{Stdin, Stdout};
 
 const MEMORY: usize = Plan::MOST_SLOTS * Plan::SLOT_BYTES;
+
+// A block, and the answers to it that are written at once.
+const BLOCK: usize = 65_536;
 
 // The desk after a block, how much of a line is carried over, where in the block it stopped, and the stream, which is closed where the
 // answers could not be written.
@@ -28,6 +32,7 @@ struct Turn {
 
 // Answers the lines that end in a block: all of them, unless the answers cannot be written.
 fn answer_block(
+    stdout: Stdout,
     desk: Desk,
     memory: &mut [u8],
     held: &mut [u8],
@@ -50,7 +55,7 @@ fn answer_block(
         d = f.desk;
         u = f.used;
         at = f.next;
-        s = s.write_answers(out, f.written);
+        s = s.write_answers(stdout, out, f.written);
         if !s.goes_on() {
             return Turn {
                 desk: d,
@@ -70,6 +75,7 @@ fn answer_block(
 
 // Answers a last line without its end, as if its end had come: where a byte of it came, one line end more is a block.
 fn answer_last(
+    stdout: Stdout,
     desk: Desk,
     memory: &mut [u8],
     held: &mut [u8],
@@ -89,11 +95,18 @@ fn answer_last(
             stream,
         };
     }
-    answer_block(desk, memory, held, used, b"\n", out, stream)
+    answer_block(stdout, desk, memory, held, used, b"\n", out, stream)
 }
 
 // Answers the whole input, block by block, until the stream is closed.
-fn answer_all(memory: &mut [u8], held: &mut [u8], piece: &mut [u8], out: &mut [u8]) -> Stream
+fn answer_all(
+    stdin: Stdin,
+    stdout: Stdout,
+    memory: &mut [u8],
+    held: &mut [u8],
+    piece: &mut [u8],
+    out: &mut [u8],
+) -> Stream
     requires { (carry_limit ≤ length held.old) × (0 < length piece.old) × (enough ≤ length out.old) }
     ensures { result.is_open ≡ false }
 {
@@ -101,14 +114,14 @@ fn answer_all(memory: &mut [u8], held: &mut [u8], piece: &mut [u8], out: &mut [u
     let mut u: usize = 0;
     let mut s = Stream::open();
     while s.goes_on() {
-        let r = s.read_block(piece);
+        let r = s.read_block(stdin, piece);
         s = r.stream;
         let n = r.bytes;
         if n == 0 {
-            answer_last(d, memory, held, u, out, s);
+            answer_last(stdout, d, memory, held, u, out, s);
             return s;
         }
-        let t = answer_block(d, memory, held, u, &piece[..n], out, s);
+        let t = answer_block(stdout, d, memory, held, u, &piece[..n], out, s);
         d = t.desk;
         u = t.used;
         s = t.stream;
@@ -116,10 +129,17 @@ fn answer_all(memory: &mut [u8], held: &mut [u8], piece: &mut [u8], out: &mut [u
     s
 }
 
-fn main() {
+fn main(rt: HostRuntime) {
     let mut memory = [0u8; MEMORY];
     let mut held = [0u8; lines::CARRY_LIMIT];
-    let mut piece = io::large_buffer();
-    let mut out = io::large_buffer();
-    answer_all(&mut memory, &mut held, &mut piece, &mut out);
+    let mut piece = [0u8; BLOCK];
+    let mut out = [0u8; BLOCK];
+    answer_all(
+        rt.stdin(),
+        rt.stdout(),
+        &mut memory,
+        &mut held,
+        &mut piece,
+        &mut out,
+    );
 }

@@ -3,7 +3,6 @@
 #![tactic(auto)]
 
 use calendar::Tick;
-use libc::STDOUT_FILENO;
 use mailbox::State;
 use plan::Plan;
 
@@ -24,7 +23,7 @@ fn senders() -> [[bool; Plan::TASKS]; Plan::QUEUES] {
     square
 }
 
-fn main() {
+fn main(rt: HostRuntime) {
     let damp = b"damp: 41 %             \n";
     let filler = b"no reading             \n";
     let mut memory = [0u8; Plan::MOST_SLOTS * Plan::SLOT_BYTES];
@@ -33,8 +32,8 @@ fn main() {
     let sent = started.state.send(plan, &mut memory, 0, 1, Tick(3), damp);
     let first = sent.state.receive(plan, &memory, 0, Tick(10));
     let gap = first.answer;
-    io::write_all(STDOUT_FILENO, view::view(gap, &memory, filler));
+    let _ = rt.write_all(view::view(gap, &memory, filler));
     let second = first.state.receive(plan, &memory, 0, Tick(10));
     let message = second.answer;
-    io::write_all(STDOUT_FILENO, view::view(message, &memory, filler));
+    let _ = rt.write_all(view::view(message, &memory, filler));
 }

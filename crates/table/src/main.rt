@@ -6,58 +6,58 @@
 use blocks::Stream;
 use findings::Table;
 use frames::answers::write_refusal;
-use libc::STDIN_FILENO;
 use listing::lines::{LINES_ROOM, write_table, write_unread};
 use plan::Plan;
 use plan::refusal::Refusal;
 use reader::{MOST_BYTES, MOST_ROWS, ROWS_ROOM, TREE_ROOM};
 use report::{WORDS_ROOM, say_refused, say_unread};
+use std::io::{Stderr, Stdout};
 use tableplans::{Answer, Import};
 
 const TEXT_ROOM: usize = MOST_BYTES + 1;
 
-fn print_table(plan: Plan) {
+fn print_table(stdout: Stdout, plan: Plan) {
     let mut out = [0u8; LINES_ROOM];
     let n = write_table(&mut out, plan);
-    Stream::open().write_answers(&out, n);
+    Stream::open().write_answers(stdout, &out, n);
 }
 
 // What the reader refuses.
-fn print_unread(text: &[u8], refusal: findings::Refusal) {
+fn print_unread(stdout: Stdout, stderr: Stderr, text: &[u8], refusal: findings::Refusal) {
     let mut out = [0u8; LINES_ROOM];
     let n = write_unread(&mut out, refusal);
-    Stream::open().write_answers(&out, n);
+    Stream::open().write_answers(stdout, &out, n);
     let mut words = [0u8; WORDS_ROOM];
     let m = say_unread(&mut words, text, refusal);
-    blocks::write_words(&words, m);
+    blocks::write_words(stderr, &words, m);
 }
 
 // What planning refuses.
-fn print_refused(table: Table, refusal: Refusal) {
+fn print_refused(stdout: Stdout, stderr: Stderr, table: Table, refusal: Refusal) {
     let mut out = [0u8; LINES_ROOM];
     let n = write_refusal(&mut out, refusal);
-    Stream::open().write_answers(&out, n);
+    Stream::open().write_answers(stdout, &out, n);
     let mut words = [0u8; WORDS_ROOM];
     let m = say_refused(&mut words, table, refusal);
-    blocks::write_words(&words, m);
+    blocks::write_words(stderr, &words, m);
 }
 
-fn print(text: &[u8], import: Import) {
+fn print(stdout: Stdout, stderr: Stderr, text: &[u8], import: Import) {
     let answer = import.answer;
     let table = import.table;
     let plan = import.plan;
     match answer {
-        Answer::Accepted => print_table(plan),
-        Answer::TextRefused(refusal) => print_unread(text, refusal),
-        Answer::TableRefused(refusal) => print_refused(table, refusal),
+        Answer::Accepted => print_table(stdout, plan),
+        Answer::TextRefused(refusal) => print_unread(stdout, stderr, text, refusal),
+        Answer::TableRefused(refusal) => print_refused(stdout, stderr, table, refusal),
         Answer::NoRoom => {
             let words = b"the memory is too short\n";
-            blocks::write_words(words, words.len());
+            blocks::write_words(stderr, words, words.len());
         }
     }
 }
 
-fn main() {
+fn main(rt: HostRuntime) {
     let mut text = [0u8; TEXT_ROOM];
     let mut plain = [0u8; MOST_BYTES];
     let mut rows = [0usize; ROWS_ROOM];
@@ -65,7 +65,7 @@ fn main() {
     let mut connected = [0u32; TREE_ROOM];
     let mut queued = [0u32; TREE_ROOM];
     let mut types = [0u32; MOST_ROWS];
-    let n = io::read_full(STDIN_FILENO, &mut text);
+    let n = blocks::read_text(rt.stdin(), &mut text);
     let import = imports::plan_text(
         &text[..n],
         &mut plain,
@@ -75,5 +75,5 @@ fn main() {
         &mut queued,
         &mut types,
     );
-    print(&text[..n], import);
+    print(rt.stdout(), rt.stderr(), &text[..n], import);
 }

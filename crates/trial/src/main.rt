@@ -7,14 +7,17 @@ mod run; // run.rt: the lines on a state and the memory
 mod table; // table.rt: the lines on a table and its plan
 mod text; // text.rt: words and numbers
 
-use libc::STDIN_FILENO;
 use plan::Plan;
 use run::{fresh_run, run_after};
+use std::io::Stdout;
 use table::{plan_after, table_after};
 use text::{letter, number};
 
 // The longest text that is read; what is longer is cut.
 const TEXT: usize = 131_072;
+
+// The most memory that is lent.
+const BUFFER: usize = 65_536;
 
 // How much of the buffer is lent after a line: `memory LENGTH BYTE` asks for so many bytes, all of them BYTE.
 fn lent_after(before: usize, line: &[u8], buffer: &mut [u8]) -> usize {
@@ -29,7 +32,7 @@ fn lent_after(before: usize, line: &[u8], buffer: &mut [u8]) -> usize {
 }
 
 // Plays each line of the text that has its end.
-fn play(text: &[u8], buffer: &mut [u8]) {
+fn play(stdout: Stdout, text: &[u8], buffer: &mut [u8]) {
     let mut table = Plan::zeros();
     let mut plan = Plan::zeros();
     let mut run = fresh_run();
@@ -45,19 +48,19 @@ fn play(text: &[u8], buffer: &mut [u8]) {
         end += 1;
         at = end;
         table = table_after(table, line);
-        plan = plan_after(plan, table, line);
+        plan = plan_after(stdout, plan, table, line);
         let asked = lent_after(lent, line, buffer);
         if buffer.len() < asked {
             continue;
         }
         lent = asked;
-        run = run_after(run, plan, line, &mut buffer[..lent]);
+        run = run_after(stdout, run, plan, line, &mut buffer[..lent]);
     }
 }
 
-fn main() {
+fn main(rt: HostRuntime) {
     let mut text = [0u8; TEXT];
-    let mut buffer = io::large_buffer();
-    let n = io::read_full(STDIN_FILENO, &mut text);
-    play(&text[..n], &mut buffer);
+    let mut buffer = [0u8; BUFFER];
+    let n = blocks::read_text(rt.stdin(), &mut text);
+    play(rt.stdout(), &text[..n], &mut buffer);
 }

@@ -2,28 +2,28 @@
 // state and the answer of the last receive, which the views after it are of.
 use crate::text::{FIELD, letter, number, say, say_refused};
 use calendar::{Number, Slot, Tick};
-use libc::STDOUT_FILENO;
 use mailbox::{Received, Receiving, Sent, Started, State};
 use plan::Plan;
+use std::io::Stdout;
 
 // The longest payload and filler that a line can ask for; a length counts modulo one more.
 const MOST_BYTES: usize = 64;
 
 const PRIME: u64 = 1_000_003;
 
-fn say_started(answer: Started) {
+fn say_started(stdout: Stdout, answer: Started) {
     match answer {
         Started::Ready => {
-            io::write_all(STDOUT_FILENO, b"ready\n");
+            let _ = stdout.write_all(b"ready\n");
         }
-        Started::Refused(r) => say_refused(r),
+        Started::Refused(r) => say_refused(stdout, r),
     }
 }
 
-fn start(plan: Plan, memory: &mut [u8]) -> State {
+fn start(stdout: Stdout, plan: Plan, memory: &mut [u8]) -> State {
     let starting = State::start(plan, memory);
     let answer = starting.answer;
-    say_started(answer);
+    say_started(stdout, answer);
     starting.state
 }
 
@@ -36,15 +36,15 @@ fn counted_up(first: u64) -> [u8; MOST_BYTES] {
     bytes
 }
 
-fn say_sent(answer: Sent) {
+fn say_sent(stdout: Stdout, answer: Sent) {
     match answer {
-        Sent::Stored(number, slot) => say(b"stored ", number.0, slot.0 as u64),
-        Sent::Refused(r) => say_refused(r),
+        Sent::Stored(number, slot) => say(stdout, b"stored ", number.0, slot.0 as u64),
+        Sent::Refused(r) => say_refused(stdout, r),
     }
 }
 
 // The send of a line `send Q I T LEN FIRST`.
-fn send(before: State, plan: Plan, line: &[u8], memory: &mut [u8]) -> State {
+fn send(stdout: Stdout, before: State, plan: Plan, line: &[u8], memory: &mut [u8]) -> State {
     let queue = number(line, 0) as usize;
     let task = number(line, 1) as usize;
     let at = Tick(number(line, 2));
@@ -52,28 +52,28 @@ fn send(before: State, plan: Plan, line: &[u8], memory: &mut [u8]) -> State {
     let bytes = counted_up(number(line, 4));
     let sending = before.send(plan, memory, queue, task, at, &bytes[..length]);
     let answer = sending.answer;
-    say_sent(answer);
+    say_sent(stdout, answer);
     sending.state
 }
 
-fn say_received(answer: Received) {
+fn say_received(stdout: Stdout, answer: Received) {
     match answer {
-        Received::Message(number, slot) => say(b"message ", number.0, slot.0 as u64),
-        Received::Gap(number, task) => say(b"gap ", number.0, task as u64),
+        Received::Message(number, slot) => say(stdout, b"message ", number.0, slot.0 as u64),
+        Received::Gap(number, task) => say(stdout, b"gap ", number.0, task as u64),
         Received::Empty => {
-            io::write_all(STDOUT_FILENO, b"empty\n");
+            let _ = stdout.write_all(b"empty\n");
         }
-        Received::Refused(r) => say_refused(r),
+        Received::Refused(r) => say_refused(stdout, r),
     }
 }
 
 // The receive of a line `receive Q T`.
-fn receive(before: State, plan: Plan, line: &[u8], memory: &[u8]) -> Receiving {
+fn receive(stdout: Stdout, before: State, plan: Plan, line: &[u8], memory: &[u8]) -> Receiving {
     let queue = number(line, 0) as usize;
     let at = Tick(number(line, 1));
     let receiving = before.receive(plan, memory, queue, at);
     let answer = receiving.answer;
-    say_received(answer);
+    say_received(stdout, answer);
     receiving
 }
 
@@ -87,24 +87,25 @@ fn keep(state: State, line: &[u8]) -> Receiving {
     }
 }
 
-fn say_bytes(bytes: &[u8]) {
+fn say_bytes(stdout: Stdout, bytes: &[u8]) {
     if bytes.len() == 0 {
-        io::write_all(STDOUT_FILENO, b"none\n");
+        let _ = stdout.write_all(b"none\n");
         return;
     }
-    io::write_all(STDOUT_FILENO, b"bytes ");
+    let _ = stdout.write_all(b"bytes ");
     for k in 0..bytes.len() {
-        io::print_hex(STDOUT_FILENO, bytes[k] as u64, 2);
+        let byte = bytes[k];
+        let _ = print!(stdout; "{byte:02x}");
     }
-    io::write_all(STDOUT_FILENO, b"\n");
+    let _ = stdout.write_all(b"\n");
 }
 
 // The view of a line `view LEN BYTE`, in hexadecimal.
-fn say_view(run: Receiving, line: &[u8], memory: &[u8]) {
+fn say_view(stdout: Stdout, run: Receiving, line: &[u8], memory: &[u8]) {
     let answer = run.answer;
     let filler = [(number(line, 1) % 256) as u8; MOST_BYTES];
     let asked = number(line, 0) as usize % (MOST_BYTES + 1);
-    say_bytes(view::view(answer, memory, &filler[..asked]));
+    say_bytes(stdout, view::view(answer, memory, &filler[..asked]));
 }
 
 // A digest is the sum of the values, each times its place counted from 1, modulo a prime: a change anywhere shows. The value has
@@ -132,15 +133,19 @@ fn bytes_added(memory: &[u8]) -> u64 {
 }
 
 // The state's values in a row are the tick, what was sent, where reading stands.
-fn say_digest(state: State, memory: &[u8]) {
+fn say_digest(stdout: Stdout, state: State, memory: &[u8]) {
     let sent = state.sent;
     let reading = state.reading;
     let ticked = added(0, 0, 0, state.tick.0);
     let of_sent = values_added(ticked, 1, &sent);
     let of_state = values_added(of_sent, 1 + Plan::CELLS, &reading);
-    io::write_all(STDOUT_FILENO, b"state ");
-    io::print_decimal(STDOUT_FILENO, of_state);
-    say(b" memory ", memory.len() as u64, bytes_added(memory));
+    let _ = print!(stdout; "state {of_state}");
+    say(
+        stdout,
+        b" memory ",
+        memory.len() as u64,
+        bytes_added(memory),
+    );
 }
 
 // The state after a line `force FIELD VALUE` or `force FIELD INDEX VALUE`. An index counts modulo the field's length.
@@ -168,26 +173,38 @@ pub fn fresh_run() -> Receiving {
 }
 
 // The run after a line that leaves the memory as it is.
-fn run_over(mut run: Receiving, plan: Plan, line: &[u8], memory: &[u8]) -> Receiving {
+fn run_over(
+    stdout: Stdout,
+    mut run: Receiving,
+    plan: Plan,
+    line: &[u8],
+    memory: &[u8],
+) -> Receiving {
     let word = letter(line, 0);
     match word {
-        b'r' => return receive(run.state, plan, line, memory),
+        b'r' => return receive(stdout, run.state, plan, line, memory),
         b'k' => return keep(run.state, line),
         b'f' => run.state = forced(run.state, line),
-        b'v' => say_view(run, line, memory),
-        b'd' => say_digest(run.state, memory),
+        b'v' => say_view(stdout, run, line, memory),
+        b'd' => say_digest(stdout, run.state, memory),
         _ => {}
     }
     run
 }
 
 // The run after a line.
-pub fn run_after(mut run: Receiving, plan: Plan, line: &[u8], memory: &mut [u8]) -> Receiving {
+pub fn run_after(
+    stdout: Stdout,
+    mut run: Receiving,
+    plan: Plan,
+    line: &[u8],
+    memory: &mut [u8],
+) -> Receiving {
     let word = letter(line, 0);
     match word {
-        b'i' => run.state = start(plan, memory),
-        b's' => run.state = send(run.state, plan, line, memory),
-        _ => return run_over(run, plan, line, memory),
+        b'i' => run.state = start(stdout, plan, memory),
+        b's' => run.state = send(stdout, run.state, plan, line, memory),
+        _ => return run_over(stdout, run, plan, line, memory),
     }
     run
 }

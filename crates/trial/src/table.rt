@@ -2,10 +2,10 @@
 // it is counted all the same, so that a table of 17 tasks or 9 queues comes to planning as one.
 use crate::text::{FIELD, MOST, count, letter, number, say, say_refused};
 use calendar::{Job, Number};
-use libc::STDOUT_FILENO;
 use lookups::{Numbered, Origins, Window};
 use plan::Plan;
 use planning::Answer;
+use std::io::Stdout;
 
 // The tasks of a line `tasks P/D P/D ..`, and no queue yet.
 fn tasks_of(line: &[u8]) -> Plan {
@@ -59,16 +59,16 @@ pub fn table_after(table: Plan, line: &[u8]) -> Plan {
 }
 
 // The slots of each of a plan's queues: how many, and the first one's place.
-fn say_plan(plan: Plan) {
+fn say_plan(stdout: Stdout, plan: Plan) {
     for q in 0..Plan::QUEUES {
         if q < plan.queues {
-            say(b"slots ", plan.size[q] as u64, plan.place[q] as u64);
+            say(stdout, b"slots ", plan.size[q] as u64, plan.place[q] as u64);
         }
     }
 }
 
 // Plans the table, and says what planning answers.
-fn planned(table: Plan) -> Plan {
+fn planned(stdout: Stdout, table: Plan) -> Plan {
     let period = table.period;
     let deadline = table.deadline;
     let priority = table.priority;
@@ -86,8 +86,8 @@ fn planned(table: Plan) -> Plan {
     let answer = made.answer;
     let plan = made.plan;
     match answer {
-        Answer::Accepted => say_plan(plan),
-        Answer::Refused(r) => say_refused(r),
+        Answer::Accepted => say_plan(stdout, plan),
+        Answer::Refused(r) => say_refused(stdout, r),
     }
     plan
 }
@@ -113,50 +113,53 @@ fn altered(before: Plan, line: &[u8]) -> Plan {
     plan
 }
 
-fn say_number(answer: Numbered) {
+fn say_number(stdout: Stdout, answer: Numbered) {
     match answer {
         Numbered::Is(n) => {
-            io::print_decimal(STDOUT_FILENO, n.0);
-            io::write_all(STDOUT_FILENO, b"\n");
+            let value = n.0;
+            let _ = println!(stdout; "{value}");
         }
-        Numbered::Refused(r) => say_refused(r),
+        Numbered::Refused(r) => say_refused(stdout, r),
     }
 }
 
-fn say_origins(answer: Origins) {
+fn say_origins(stdout: Stdout, answer: Origins) {
     match answer {
-        Origins::From(task, job) => say(b"", task as u64, job.0),
-        Origins::Refused(r) => say_refused(r),
+        Origins::From(task, job) => say(stdout, b"", task as u64, job.0),
+        Origins::Refused(r) => say_refused(stdout, r),
     }
 }
 
-fn say_window(answer: Window) {
+fn say_window(stdout: Stdout, answer: Window) {
     match answer {
-        Window::Numbers(first, last) => say(b"", first.0, last.0),
-        Window::Refused(r) => say_refused(r),
+        Window::Numbers(first, last) => say(stdout, b"", first.0, last.0),
+        Window::Refused(r) => say_refused(stdout, r),
     }
 }
 
 // The lines `number q i k`, `back q n` and `window q m`: a lookup's answer.
-fn look_up(plan: Plan, line: &[u8]) {
+fn look_up(stdout: Stdout, plan: Plan, line: &[u8]) {
     let queue = number(line, 0) as usize;
     let second = number(line, 1);
     let word = letter(line, 0);
     match word {
-        b'n' => say_number(lookups::number_of(plan, queue, second as usize, Job(number(line, 2)))),
-        b'b' => say_origins(lookups::way_back(plan, queue, Number(second))),
-        b'w' => say_window(lookups::window_of(plan, queue, Job(second))),
+        b'n' => say_number(
+            stdout,
+            lookups::number_of(plan, queue, second as usize, Job(number(line, 2))),
+        ),
+        b'b' => say_origins(stdout, lookups::way_back(plan, queue, Number(second))),
+        b'w' => say_window(stdout, lookups::window_of(plan, queue, Job(second))),
         _ => {}
     }
 }
 
 // The plan after a line. A line that leaves the plan as it is may ask for a lookup.
-pub fn plan_after(plan: Plan, table: Plan, line: &[u8]) -> Plan {
+pub fn plan_after(stdout: Stdout, plan: Plan, table: Plan, line: &[u8]) -> Plan {
     let word = letter(line, 0);
     match word {
-        b'p' => return planned(table),
+        b'p' => return planned(stdout, table),
         b'a' => return altered(plan, line),
-        _ => look_up(plan, line),
+        _ => look_up(stdout, plan, line),
     }
     plan
 }

@@ -1,7 +1,7 @@
 // The text: a line is words and decimal numbers, and so is an answer. The first letters of a line's words tell what is asked, and `#`
 // opens a remark.
-use libc::STDOUT_FILENO;
 use plan::refusal::Refusal;
+use std::io::Stdout;
 
 // More numbers than any line has.
 pub const MOST: usize = 40;
@@ -80,17 +80,15 @@ pub fn count(line: &[u8]) -> usize {
 }
 
 // Writes words, two numbers and a line end.
-pub fn say(words: &[u8], a: u64, b: u64) {
-    io::write_all(STDOUT_FILENO, words);
-    io::print_decimal(STDOUT_FILENO, a);
-    io::write_all(STDOUT_FILENO, b" ");
-    io::print_decimal(STDOUT_FILENO, b);
-    io::write_all(STDOUT_FILENO, b"\n");
+pub fn say(stdout: Stdout, words: &[u8], a: u64, b: u64) {
+    let _ = stdout.write_all(words);
+    let _ = println!(stdout; "{a} {b}");
 }
 
-pub fn say_refused(refusal: Refusal) {
+pub fn say_refused(stdout: Stdout, refusal: Refusal) {
     let rule = refusal.rule;
     say(
+        stdout,
         b"refused ",
         plan::refusal::rule_number(rule) as u64,
         refusal.row as u64,
