@@ -70,7 +70,7 @@ line_of held n xs = cond (ltb 0 n) (take n held) (cut xs)
 abbrev pub LineGives : Bor (List ℕ) → ℕ → Bor (List ℕ) → ℕ → ℕ → Bor (List ℕ) → Type 0
 LineGives held n piece from to r =
     (r.now ≡ line_of held.now n (part piece.now from (to - from)))
-    × (r.ptr ≡ cond (ltb 0 n) held.ptr (piece.ptr.0, from + piece.ptr.1))
+    × (r.ref_ptr ≡ cond (ltb 0 n) held.ref_ptr (piece.ref_ptr.0, from + piece.ref_ptr.1))
 
 -- the code counts its bytes
 pub cut_take : (n : ℕ) (l : List ℕ) → cut (take n l) ≡ take (min carry_limit n) l

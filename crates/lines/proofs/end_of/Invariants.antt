@@ -1,0 +1,11 @@
+-- `lines::end_of`: every byte passed is no line feed.
+-- the line ends where it ends from i on
+use Rattle.common.specs.Words.{◌≡◌, ◌-◌, length}
+use Rattle.lines.specs.Ends.{end_of}
+use Rattle.lines.proofs.end_of.Given as goal
+
+abbrev pub invariant-loop-i : goal.invariant-loop-i
+invariant-loop-i l = end_of l.piece l.i ≡ end_of l.piece l.from
+
+abbrev pub decreases-loop-i : goal.decreases-loop-i
+decreases-loop-i l = length l.piece - l.i
