@@ -2,7 +2,7 @@
 use Rattle.std.specs.Prelude.{bit_or}
 use Rattle.common.specs.Words.{ℕ, zero, suc, ◌+◌, ◌*◌, ◌/◌, ◌%◌, ◌^◌, ◌<◌, ◌≤◌, arith, add-one, Bool, true, false, cond, ◌&&◌}
 use Rattle.common.specs.Words.{List, [], ◌∷◌, ◌++◌, inl, inr, ◌⊎◌, ◌≡◌, refl, sym, ap, subst, ◌∙◌, leb, ltb, length, get_or, take, set, sets}
-use Rattle.common.specs.Words.{length-set, length-sets, length-take-le, take-suc, lt-ltb, le-ltb, le-leb, lt-leb, eq-eqb, ne_eqb}
+use Rattle.common.specs.Words.{length-sets, length-take-le, take-suc, lt-ltb, le-ltb, le-leb, lt-leb, eq-eqb, ne_eqb}
 use Rattle.common.specs.Words.{ltb-true, leb-true, eqb-true}
 use Rattle.std.proofs.lemmas.Nat.{or_lt, and_le_l, and_le_r}
 use Rattle.std.specs.Int.Bits.{or_add_and}
