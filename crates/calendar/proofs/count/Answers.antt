@@ -1,10 +1,9 @@
 -- `calendar::count`: before the first deadline the quotient is 0, and from there on it is one more than that of the definition.
-use Rattle.common.specs.Words.{ℕ, ◌+◌, ◌-◌, ◌*◌, ◌/◌, ◌<◌, ◌≤◌, add-mul-div_right, div-eq_of_lt-le, arith, rules, ⊎_elim, ◌≡◌, sym, ◌∙◌}
+use Rattle.common.specs.Words.{ℕ, ◌+◌, ◌-◌, ◌*◌, ◌/◌, ◌<◌, ◌≤◌, add-mul-div_right, div-eq_of_lt-le, arith, ⊎_elim, ◌≡◌, sym, ◌∙◌}
 use Rattle.common.specs.Tests.{lt_or_le}
 use Rattle.model.specs.Model.{count}
 use Rattle.model.specs.Count.{count_before, count_from}
-use Rattle.calendar.proofs.count.Statement.{statement}
-use Rattle.calendar.proofs.count.Tie as tie
+use Rattle.calendar.proofs.count.Goals as goal
 
 quotient : (P D t : ℕ) → 1 ≤ P → D ≤ P → (t + (P - D)) / P ≡ count P D t
 quotient P D t pos fits =
@@ -14,8 +13,5 @@ quotient P D t pos fits =
     rw e (add-mul-div_right (t - D) 1 pos) ∙ sym (count_from P D t g))
     (lt_or_le t D)
 
-returns : tie.Need-returns
-returns c = let s = c.before in quotient s.args.period s.args.deadline s.args.at.0 s.requires.0 s.requires.1
-
-pub count_spec : {M : Type 1} → statement M
-count_spec = tie.close (tie.spec (λ c. search rules) (λ c. search rules) (λ c. search rules) returns)
+pub returns : goal.returns
+returns c = let s = c in quotient s.args.period s.args.deadline s.args.at.0 s.requires.0 s.requires.1

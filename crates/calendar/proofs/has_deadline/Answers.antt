@@ -1,0 +1,17 @@
+-- `calendar::has_deadline`: the definition's two tests.
+use Rattle.common.specs.Words.{rules}
+use Rattle.common.specs.Tests.{tests}
+use Rattle.model.specs.Model.{has_deadline}
+use Rattle.calendar.proofs.has_deadline.Goals as goal
+
+pub nonzero_rem-result : goal.nonzero_rem-result
+unfolding has_deadline
+nonzero_rem-result c = search rules
+
+pub returns-then-at-deadline : goal.returns-then-at-deadline
+unfolding has_deadline
+returns-then-at-deadline c = search tests
+
+pub returns-else-at-deadline : goal.returns-else-at-deadline
+unfolding has_deadline
+returns-else-at-deadline c = search tests
