@@ -1,14 +1,14 @@
 -- Laws of rules that say more: what is done in a row, by a choice, again and again, with properties of its own.
-use Rattle.common.specs.Words.{ℕ, zero, suc, ◌+◌, ◌<◌, ◌≤◌, arith, Bool, true, false, true≢false, cond}
-use Rattle.common.specs.Words.{List, [], ◌∷◌, ◌++◌, append-nil, append_assoc}
-use Rattle.common.specs.Words.{◌≡◌, refl, sym, ap, ◌∙◌, length}
+use Rattle.common.specs.Words.{ℕ, zero, suc, ◌+◌, ◌<◌, arith, Bool, true, false, true≢false, cond}
+use Rattle.common.specs.Words.{List, [], ◌∷◌, ◌++◌}
+use Rattle.common.specs.Words.{◌≡◌, refl, sym, ◌∙◌, length}
 use Rattle.tokens.specs.Tokens.{Token}
 use Rattle.tokens.specs.Laws.{cases}
 use Rattle.steps.specs.declared.Fault.{Fault}
 use Rattle.steps.specs.Faults.{worse, worst}
 use Rattle.steps.specs.Steps.{Step, On, Stop, ◌⟫◌}
 use Rattle.steps.specs.Lifted.{holds, size}
-use Rattle.steps.specs.Laws.{going, Moved, went, stopped, goes_none, goes_shorter, moved_then, moved_less, moved_either}
+use Rattle.steps.specs.Laws.{going, Moved, went, stopped, goes_none, goes_shorter, moved_then, moved_less}
 use Rattle.rows.specs.Rows.{Row, Store, store, with_row, with_rows}
 use Rattle.rows.specs.Said.{Said, said, Rule, quiet, joined, onward, ◌⨟◌, optionally, repeat_by, repeat, put, no_props, merged, apart, adding}
 use Rattle.steps.specs.declared.Went.{Went}

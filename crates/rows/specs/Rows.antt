@@ -1,5 +1,5 @@
 -- What a text declares, in text order: a row of ten numbers for each. A name is the place where it stands, 0 where none stands.
-use Rattle.common.specs.Words.{ℕ, zero, suc, ◌+◌, ◌*◌, List, [], ◌∷◌, cond, leb, length, get_or, sets}
+use Rattle.common.specs.Words.{ℕ, ◌+◌, ◌*◌, List, [], ◌∷◌, cond, leb, length, get_or, sets}
 
 abbrev pub Row : Type 0
 Row = List ℕ

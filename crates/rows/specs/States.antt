@@ -1,13 +1,12 @@
 -- What the code carries through the rules, and what a rule does to it.
 use Rattle.common.specs.Words.{ℕ, cond, List, eqb}
-use Rattle.tokens.specs.Tokens.{Token}
 use Rattle.steps.specs.declared.Fault.{Fault}
 use Rattle.steps.specs.Faults.{no_fault, worse, worst}
 use Rattle.steps.specs.declared.Went.{Went}
 use Rattle.steps.specs.Steps.{Step, On, Stop}
 use Rattle.steps.specs.Lifted.{lift}
 use Rattle.rows.specs.declared.Reading.{Reading}
-use Rattle.rows.specs.Rows.{Row, Store, store, with_rows}
+use Rattle.rows.specs.Rows.{Store, store, with_rows}
 use Rattle.rows.specs.Said.{Said, Rule, no_props}
 
 -- how the text goes on, the properties found, the least fault noted, and the rows so far

@@ -17,7 +17,7 @@ pub const ROW: usize = 10;
 pub const PROPERTIES: usize = 6;
 
 // What the rules have said so far: where the text goes on, the properties found, how many rows there are, and the least fault noted.
-#[derive(Drop)]
+#[derive(Clone, Copy)]
 pub struct Reading {
     pub went: Went,
     pub props: [usize; PROPERTIES],

@@ -1,0 +1,14 @@
+-- `rows::put`.
+use Rattle.rows.specs.Said.{put}
+use Rattle.rows.specs.Laws.{stopped_stays, put_goes}
+use Rattle.rows.proofs.put.Goals as goal
+
+pub returns-in_default : goal.returns-in_default
+returns-in_default c = let a = c.args in λ p row e. stopped_stays p a.reading a.rows.now (put row) _ c.in_default.is
+
+pub returns : goal.returns
+returns c =
+    let k = c in
+    let j = k in
+    let a = j.args in
+    λ p row e. put_goes p a.reading a.rows.now _ k.keep.result _ row j.in-To.is (rw e k.keep.ensures)
