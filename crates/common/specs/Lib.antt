@@ -3,7 +3,6 @@ pub mod Words
 pub mod Terms
 pub mod Tests
 pub mod Totals
-pub mod Rows
 pub mod Rank
 pub mod Table
 pub mod Stores

@@ -2,8 +2,8 @@
 use Rattle.common.specs.Words.{ℕ, ◌+◌, ◌*◌, ◌^◌, ◌<◌, ◌≤◌, arith, mul-le-mul_right, Bool, List, ⊎_elim, get_or}
 use Rattle.common.specs.Tests.{lt_or_le}
 use Rattle.model.specs.Model.{up_to}
-use Rattle.model.specs.Order.{period_pos}
-use Rattle.model.specs.Number.{up_to_le, up_to_mono}
+use Rattle.model.proofs.Order.{period_pos}
+use Rattle.model.proofs.Number.{up_to_le, up_to_mono}
 use Rattle.plan.specs.Limits.{task_limit, last_tick}
 use Rattle.counting.specs.Columns.{columns_at, Lent}
 

@@ -4,7 +4,7 @@ use Rattle.common.specs.Words.{ℕ, ◌+◌, ◌-◌, ◌*◌, ◌/◌, ◌<◌,
 use Rattle.common.specs.Tests.{lt_or_le}
 use Rattle.common.specs.Totals.{eq_by}
 use Rattle.model.specs.Model.{count}
-use Rattle.model.specs.Count.{count_iff, count_before, count_from}
+use Rattle.model.proofs.Count.{count_iff, count_before, count_from}
 
 module _ (P D : ℕ) (pos : 1 ≤ P) where
   pub count_on : (t next x : ℕ) → t + next ≡ count P D t * P + D → count P D (t + x) ≡ count P D t + count P next x

@@ -3,8 +3,8 @@
 use Rattle.common.specs.Words.{ℕ, ◌+◌, ◌<◌, ◌≤◌, arith, add-one, Bool, true, false, cond, ◌&&◌, ◌≡◌, refl, sym, ◌∙◌}
 use Rattle.common.specs.Totals.{only, only_zero, sum, sum_add, sum_ext}
 use Rattle.model.specs.Model.{Queue, Valid, count, has_deadline, due_at, precedes, row_up_to, row_followers, up_to, followers}
-use Rattle.model.specs.Count.{count_step}
-use Rattle.model.specs.Order.{period_pos}
+use Rattle.model.proofs.Count.{count_step}
+use Rattle.model.proofs.Order.{period_pos}
 
 -- row j's messages up to row i's
 abbrev pub row_until : Queue → ℕ → ℕ → ℕ → ℕ

@@ -7,7 +7,7 @@ use Rattle.common.specs.Words.{ltb-true, leb-true, eqb-true}
 use Rattle.std.proofs.lemmas.Nat.{or_lt, and_le_l, and_le_r}
 use Rattle.std.specs.Int.Bits.{or_add_and}
 use Rattle.common.specs.Tests.{lt_or_le, having, and_left, and_right}
-use Rattle.common.specs.Rows.{every, every_none, every_at}
+use Rattle.common.proofs.Rows.{every, every_none, every_at}
 use Rattle.common.specs.Table.{table, table_length}
 use Rattle.common.specs.Stores.{sets_append, part_same}
 use Rattle.digits.specs.declared.hex.Decoded.{Decoded}

@@ -6,7 +6,7 @@ use Rattle.common.specs.Tests.{lt_or_le}
 use Rattle.calendar.specs.Calendar.{message, slot}
 use Rattle.model.specs.Model.{Valid, Sender, receiver_period, deadline_of, number, first, last, sender_of}
 use Rattle.model.specs.Source.{job_for, outdated_at}
-use Rattle.model.specs.Window.{last_iff, window_own, window_zero}
+use Rattle.model.proofs.Window.{last_iff, window_own, window_zero}
 use Rattle.plan.specs.Limits.{last_tick, payload_bytes, slot_bytes}
 use Rattle.plan.specs.Plan.{queue_at}
 use Rattle.plan.specs.Sound.{Sound}

@@ -5,8 +5,8 @@ use Rattle.common.specs.Words.{lt-div-mul-add, ⊎_elim, ◌≡◌}
 use Rattle.common.specs.Tests.{lt_or_le}
 use Rattle.model.specs.Model.{Queue, Valid, Sender, release_of, deadline_of, number}
 use Rattle.model.specs.Source.{Fit, outdated_at}
-use Rattle.model.specs.Number.{up_to_le, number_below}
-use Rattle.model.specs.Fit.{fit_above}
+use Rattle.model.proofs.Number.{up_to_le, number_below}
+use Rattle.model.proofs.Fit.{fit_above}
 use Rattle.plan.specs.Limits.{last_tick, payload_bytes, slot_bytes}
 use Rattle.plan.specs.Plan.{queue_at, size_at, slots_of}
 use Rattle.plan.specs.Sound.{Sound, usable, inside, apart as places-apart}

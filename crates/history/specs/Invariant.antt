@@ -6,9 +6,9 @@ use Rattle.common.specs.Words.{ap, subst, ◌∙◌, length, get_or, length-set,
 use Rattle.common.specs.Tests.{lt_or_le, having}
 use Rattle.model.specs.Model.{Queue, Valid, Sender, release_of, deadline_of, number}
 use Rattle.model.specs.Source.{Fit, outdated_at}
-use Rattle.model.specs.Order.{deadline_positive}
-use Rattle.model.specs.Number.{number_inj}
-use Rattle.model.specs.Outdating.{outdated_iff, horizon_back}
+use Rattle.model.proofs.Order.{deadline_positive}
+use Rattle.model.proofs.Number.{number_inj}
+use Rattle.model.proofs.Outdating.{outdated_iff, horizon_back}
 use Rattle.plan.specs.Limits.{task_limit, queue_limit, cell_limit, payload_bytes, slot_bytes}
 use Rattle.plan.specs.Plan.{queue_at, size_at, slots_of}
 use Rattle.plan.specs.Sound.{Sound}

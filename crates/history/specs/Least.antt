@@ -8,11 +8,11 @@ use Rattle.common.specs.Tests.{lt_or_le, having}
 use Rattle.calendar.specs.Calendar.{message}
 use Rattle.model.specs.Model.{Queue, Valid, Sender, receiver_period, release_of, deadline_of, number, first, last, wanted_until, sender_of, hyperperiod}
 use Rattle.model.specs.Source.{job_for, outdated_at}
-use Rattle.model.specs.Order.{period_pos}
-use Rattle.model.specs.Number.{number_iff, number_below, number_less}
-use Rattle.model.specs.Outdating.{wanted_pos, wanted_fits, job_from}
-use Rattle.model.specs.Window.{window_own}
-use Rattle.model.specs.Multiple.{hyperperiod_common}
+use Rattle.model.proofs.Order.{period_pos}
+use Rattle.model.proofs.Number.{number_iff, number_below, number_less}
+use Rattle.model.proofs.Outdating.{wanted_pos, wanted_fits, job_from}
+use Rattle.model.proofs.Window.{window_own}
+use Rattle.model.proofs.Multiple.{hyperperiod_common}
 use Rattle.plan.specs.Limits.{task_limit, queue_limit, cell_limit, last_tick, longest_hyperperiod, payload_bytes}
 use Rattle.plan.specs.Plan.{queue_at, size_at}
 use Rattle.plan.specs.Sound.{Sound}

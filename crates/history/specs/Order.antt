@@ -6,8 +6,8 @@ use Rattle.common.specs.Words.{true, false, cond, ◌&&◌, List, [], ◌∷◌,
 use Rattle.common.specs.Words.{length-append, get_or-replicate, get_or-set_same, get_or-set_other, eq-eqb, ne_eqb}
 use Rattle.calendar.specs.Calendar.{message, slot}
 use Rattle.model.specs.Model.{Valid, receiver_period, first, last, sender_of}
-use Rattle.model.specs.Order.{period_pos}
-use Rattle.model.specs.Window.{last_mono}
+use Rattle.model.proofs.Order.{period_pos}
+use Rattle.model.proofs.Window.{last_mono}
 use Rattle.plan.specs.Limits.{queue_limit, last_tick, payload_bytes}
 use Rattle.plan.specs.Plan.{queue_at}
 use Rattle.history.specs.Types.{Plan, Received}

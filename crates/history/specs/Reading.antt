@@ -7,9 +7,9 @@ use Rattle.common.specs.Tests.{having}
 use Rattle.calendar.specs.Calendar.{message}
 use Rattle.history.specs.Types.{Slot, Plan, Sent, Received}
 use Rattle.model.specs.Model.{Queue, Sender, receiver_period, release_of, deadline_of, up_to, number, first, last, sender_of, job_of}
-use Rattle.model.specs.Number.{up_to_mono}
-use Rattle.model.specs.WayBack.{way_there}
-use Rattle.model.specs.Window.{window_iff}
+use Rattle.model.proofs.Number.{up_to_mono}
+use Rattle.model.proofs.WayBack.{way_there}
+use Rattle.model.proofs.Window.{window_iff}
 use Rattle.plan.specs.Limits.{last_tick, queue_limit, payload_bytes}
 use Rattle.plan.specs.Plan.{queue_at}
 use Rattle.plan.specs.Sound.{Sound}

@@ -8,10 +8,10 @@ use Rattle.common.specs.Totals.{only, most}
 use Rattle.model.specs.Model.{Queue, Valid, Sender, receiver_period, release_of, deadline_of, number}
 use Rattle.model.specs.Model.{need, row_slots, slots_over, slots, hyperperiod}
 use Rattle.model.specs.Source.{CommonMultiple, outdated_at}
-use Rattle.model.specs.Order.{period_pos}
-use Rattle.model.specs.Number.{number_onto}
-use Rattle.model.specs.Fit.{outdated_counts}
-use Rattle.model.specs.Multiple.{hyperperiod_common}
+use Rattle.model.proofs.Order.{period_pos}
+use Rattle.model.proofs.Number.{number_onto}
+use Rattle.model.proofs.Fit.{outdated_counts}
+use Rattle.model.proofs.Multiple.{hyperperiod_common}
 
 -- message (j, l) takes the slot of message (i, k), and its job is released before that one is outdated
 pub record Short (q : Queue) (L : ℕ) : Type 0 where

@@ -5,8 +5,8 @@ use Rattle.common.specs.Words.{get_or, ltb-true, ltb-false, leb-false, eqb-true,
 use Rattle.common.specs.Tests.{as_tested}
 use Rattle.common.specs.Totals.{sum_next}
 use Rattle.model.specs.Model.{Sender, receiver_period, wanted_for, wanted_until}
-use Rattle.model.specs.Order.{period_pos}
-use Rattle.model.specs.Outdating.{wanted_fits}
+use Rattle.model.proofs.Order.{period_pos}
+use Rattle.model.proofs.Outdating.{wanted_fits}
 use Rattle.plan.specs.Limits.{task_limit, queue_limit, longest_period, most_slots, last_tick, payload_bytes, slot_bytes}
 use Rattle.plan.specs.Plan.{queue_at, size_at, place_at, slots_of, Usable}
 use Rattle.plan.specs.Facts.{connected_iff}

@@ -2,7 +2,7 @@
 use Rattle.common.specs.Words.{ℕ, zero, suc, ◌+◌, ◌*◌, ◌<◌, ◌≤◌, arith, Bool, true, false, not, ◌&&◌, List, ◌≡◌, ◌∙◌, leb, length}
 use Rattle.common.specs.Words.{⊎_elim, le-leb, leb-true, not-true}
 use Rattle.common.specs.Tests.{lt_or_le, and_left, and_right}
-use Rattle.common.specs.Rows.{first_bad, first_bad_none, first_bad_more, first_bad_found, first_bad_is}
+use Rattle.common.proofs.Rows.{first_bad, first_bad_none, first_bad_more, first_bad_found, first_bad_is}
 use Rattle.lines.specs.Ends.{stride, feed_in, end_of, end_passes}
 
 -- at a place stands a whole stride without a line feed

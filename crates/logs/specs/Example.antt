@@ -1,7 +1,7 @@
 -- Document 01's session as a log: computed line by line. The theorems' premises are met, and what they say of it is what document 01 prints.
 use Rattle.common.specs.Words.{ℕ, ◌%◌, ◌≤◌, arith, List, [], ◌∷◌, ◌++◌, inl, inr, ◌≡◌, refl, subst, ◌∙◌, replicate}
 use Rattle.common.specs.Totals.{sum, most}
-use Rattle.common.specs.Rows.{every, some, first_bad}
+use Rattle.common.proofs.Rows.{every, some, first_bad}
 use Rattle.common.specs.Table.{table}
 use Rattle.model.specs.Model.{count, has_deadline, precedes, up_to, due_at, followers, number, wanted_for, horizon, outdated, euclid, gcd, lcm, multiple}
 use Rattle.model.specs.Model.{hyperperiod, messages, need, row_slots, slots_over, slots, first, last, sender_of}

@@ -2,7 +2,7 @@
 use Rattle.common.specs.Words.{ℕ, zero, suc, ◌+◌, ◌*◌, ◌/◌, ◌%◌, ◌^◌, ◌<◌, arith, true, List, [], ◌∷◌, ◌++◌, ◌≡◌, refl, ◌∙◌, eqb, length}
 use Rattle.common.specs.Words.{get_or, length-append, get_or-append, eqb-true, div-add-mod', mod-lt, get_or_at, ⊎_elim, eq-or-lt_of_le}
 use Rattle.common.specs.Words.{le_of_suc-le-suc}
-use Rattle.common.specs.Rows.{every, every_at}
+use Rattle.common.proofs.Rows.{every, every_at}
 use Rattle.common.specs.Table.{table_at}
 use Rattle.digits.specs.Hex.{digit, letter, byte_at, bytes_in, digits}
 use Rattle.digits.specs.HexLaws.{bytes_count}

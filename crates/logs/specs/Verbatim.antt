@@ -3,7 +3,7 @@ use Rattle.common.specs.Words.{ℕ, zero, suc, ◌+◌, ◌-◌, ◌*◌, ◌/�
 use Rattle.common.specs.Words.{append_assoc, append-nil, ◌⊎◌, inl, inr, ◌≡◌, refl, sym, ap, ◌∙◌, length, get_or, drop, ext_get_or, le-leb, lt-leb}
 use Rattle.common.specs.Words.{le-ltb, lt-ltb, ltb-true}
 use Rattle.common.specs.Tests.{lt_or_le, and_right}
-use Rattle.common.specs.Rows.{every_at}
+use Rattle.common.proofs.Rows.{every_at}
 use Rattle.common.specs.Table.{table_at}
 use Rattle.digits.specs.Hex.{no_digit, digit, digit_at, even_line, is_line, byte_at, bytes_in, letter, digits}
 use Rattle.digits.specs.HexLaws.{digits_append, digits_length, bytes_count, line_even, halves}

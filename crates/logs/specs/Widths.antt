@@ -4,8 +4,8 @@ use Rattle.common.specs.Words.{ℕ, ◌*◌, ◌%◌, ◌^◌, ◌<◌, ◌≤�
 use Rattle.common.specs.Words.{subst, ap, ◌∙◌, drop, ltb, ltb-true, not-false, mod-lt, mul-le-mul, div-mul-le_self}
 use Rattle.common.specs.Tests.{both, having}
 use Rattle.model.specs.Model.{Queue, Sender, receiver_period, deadline_of, number, up_to, last, sender_of}
-use Rattle.model.specs.Number.{up_to_le, up_to_mono, number_below}
-use Rattle.model.specs.WayBack.{way_there}
+use Rattle.model.proofs.Number.{up_to_le, up_to_mono, number_below}
+use Rattle.model.proofs.WayBack.{way_there}
 use Rattle.plan.specs.Limits.{last_tick}
 use Rattle.plan.specs.Plan.{queue_at, size_at}
 use Rattle.plan.specs.Sound.{Sound, sound_iff}

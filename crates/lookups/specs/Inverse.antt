@@ -5,9 +5,9 @@ use Rattle.common.specs.Words.{ltb-false, lt-ltb}
 use Rattle.common.specs.Words.{le-ltb, eqb-false, ne_eqb, not-false}
 use Rattle.common.specs.Tests.{having}
 use Rattle.model.specs.Model.{Sender, receiver_period, released, deadline_of, number, up_to, sender_of, job_of, first, last}
-use Rattle.model.specs.Number.{number_iff, number_above}
-use Rattle.model.specs.WayBack.{way_back, way_there}
-use Rattle.model.specs.Window.{window_iff, window_zero}
+use Rattle.model.proofs.Number.{number_iff, number_above}
+use Rattle.model.proofs.WayBack.{way_back, way_there}
+use Rattle.model.proofs.Window.{window_iff, window_zero}
 use Rattle.calendar.specs.Calendar.{job, message}
 use Rattle.lookups.specs.Types.{Job, Number, Plan, Numbered, Origins, Window}
 use Rattle.plan.specs.Limits.{last_tick}

@@ -3,8 +3,8 @@
 use Rattle.common.specs.Words.{ℕ, ◌+◌, ◌*◌, ◌<◌, ◌≤◌, ◌^◌, arith, div-mul-le_self, List, ◌≡◌, refl, ap, ◌∙◌, length, lt-ltb, le-ltb, lt-leb}
 use Rattle.common.specs.Words.{le-leb, eq-eqb}
 use Rattle.model.specs.Model.{receiver_period, last, wanted_until}
-use Rattle.model.specs.Number.{number_below}
-use Rattle.model.specs.Window.{last_iff}
+use Rattle.model.proofs.Number.{number_below}
+use Rattle.model.proofs.Window.{last_iff}
 use Rattle.calendar.specs.Calendar.{message, slot}
 use Rattle.plan.specs.Limits.{last_tick, payload_bytes, slot_bytes}
 use Rattle.plan.specs.Plan.{queue_at, slots_of}

@@ -1,7 +1,7 @@
 -- A test that computes and gives `Valid`: for a table that is written out.
 use Rattle.common.specs.Words.{ℕ, Bool, true, ◌&&◌, ◌≡◌, leb, ltb, leb-true, ltb-true}
 use Rattle.common.specs.Tests.{both}
-use Rattle.common.specs.Rows.{every, every_at}
+use Rattle.common.proofs.Rows.{every, every_at}
 use Rattle.model.specs.Model.{Queue, Valid}
 
 abbrev row_valid : Queue → ℕ → Bool

@@ -1,18 +1,4 @@
--- The pages of this crate's definitions and laws.
+-- The pages of this crate's definitions; the laws about them stand in proofs/.
 pub mod Model
 pub mod Source
-pub mod Count
-pub mod Ties
-pub mod Order
-pub mod Number
-pub mod WayBack
-pub mod Outdating
-pub mod Window
-pub mod Fit
-pub mod Gcd
-pub mod Multiple
-pub mod Later
-pub mod Slots
-pub mod Equation3
 pub mod Checks
-pub mod Worked

@@ -2,7 +2,7 @@
 use Rattle.common.specs.Words.{ℕ, ◌<◌, ◌≤◌, arith, ◌&&◌, ◌≡◌, ◌∙◌, lt-ltb, ltb-true, ltb, get_or}
 use Rattle.common.specs.Totals.{only, sum, only_most, sum_ext}
 use Rattle.common.specs.Table.{table_at}
-use Rattle.common.specs.Rows.{first_bad_is}
+use Rattle.common.proofs.Rows.{first_bad_is}
 use Rattle.plan.specs.Limits.{queue_limit}
 use Rattle.plan.specs.Sound.{Checked, checked_usable}
 use Rattle.plan.specs.declared.Plan.{Plan}

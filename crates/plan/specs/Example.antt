@@ -2,7 +2,7 @@
 -- One slot more in its place, or none for the queue, and it is sound no longer.
 use Rattle.common.specs.Words.{ℕ, true, false, ◌∷◌, ◌≡◌, refl, replicate}
 use Rattle.common.specs.Totals.{sum}
-use Rattle.common.specs.Rows.{every, some, first_bad}
+use Rattle.common.proofs.Rows.{every, some, first_bad}
 use Rattle.plan.specs.Rules.{one_to, counts_good, task_good, only_tasks_send, queue_good, place_good, places_good, checked_plan, sound_plan}
 use Rattle.plan.specs.declared.Plan.{Plan}
 

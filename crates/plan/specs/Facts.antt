@@ -3,7 +3,7 @@ use Rattle.common.specs.Words.{ℕ, ◌<◌, ◌≤◌, Bool, true, false, ◌&&
 use Rattle.common.specs.Words.{eqb-true}
 use Rattle.common.specs.Words.{eq-eqb}
 use Rattle.common.specs.Tests.{clash, both, and_iff}
-use Rattle.common.specs.Rows.{every_iff, some, some_iff}
+use Rattle.common.proofs.Rows.{every_iff, some, some_iff}
 use Rattle.model.specs.Model.{Sender}
 use Rattle.plan.specs.Limits.{task_limit, queue_limit, longest_period, most_slots}
 use Rattle.plan.specs.Rules.{one_to, counts_good, task_good, may_send, only_tasks_send, queue_good, place_good, connected}

@@ -2,7 +2,7 @@
 use Rattle.common.specs.Words.{ℕ, ◌+◌, ◌<◌, ◌≤◌, arith, Bool, true, false, ◌&&◌, List, ◌↔◌, ◌≡◌, refl, sym, ◌∙◌, leb, get_or}
 use Rattle.common.specs.Tests.{and_iff, having}
 use Rattle.common.specs.Totals.{sum, sum_next, sum_up}
-use Rattle.common.specs.Rows.{every, every_iff, every_first_bad}
+use Rattle.common.proofs.Rows.{every, every_iff, every_first_bad}
 use Rattle.model.specs.Model.{Sender}
 use Rattle.plan.specs.Limits.{most_slots}
 use Rattle.plan.specs.Plan.{zeros, sends_into, queue_at, size_at, place_at, slots_of, Usable}

@@ -6,11 +6,11 @@ use Rattle.common.specs.Words.{ltb-false, leb-true, not-false, ltb, get_or}
 use Rattle.common.specs.Tests.{and_left}
 use Rattle.common.specs.Totals.{only, sum, sum_ext, sum_at}
 use Rattle.common.specs.Table.{table, table_at}
-use Rattle.common.specs.Rows.{first_bad, first_bad_is}
+use Rattle.common.proofs.Rows.{first_bad, first_bad_is}
 use Rattle.model.specs.Model.{hyperperiod}
 use Rattle.model.specs.Source.{Fit, equation3}
-use Rattle.model.specs.Slots.{slots_iff, slots_pos}
-use Rattle.model.specs.Equation3.{slots_bound}
+use Rattle.model.proofs.Slots.{slots_iff, slots_pos}
+use Rattle.model.proofs.Equation3.{slots_bound}
 use Rattle.plan.specs.Limits.{queue_limit, longest_hyperperiod, most_slots}
 use Rattle.plan.specs.Plan.{zeros, queue_at, size_at, place_at, Usable}
 use Rattle.plan.specs.Refusals.{judged}

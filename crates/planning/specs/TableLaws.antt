@@ -4,7 +4,7 @@ use Rattle.common.specs.Words.{ℕ, ◌+◌, ◌*◌, ◌/◌, ◌%◌, ◌<◌,
 use Rattle.common.specs.Words.{get_or, get_or-eq_default}
 use Rattle.common.specs.Tests.{lt_or_le}
 use Rattle.common.specs.Table.{table_at, table_length}
-use Rattle.common.specs.Rows.{first_bad_same}
+use Rattle.common.proofs.Rows.{first_bad_same}
 use Rattle.plan.specs.Limits.{task_limit, queue_limit, cell_limit}
 use Rattle.plan.specs.Square.{entry}
 use Rattle.plan.specs.Rules.{counts_good, task_good, queue_good, bad_task, bad_queue}

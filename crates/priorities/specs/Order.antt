@@ -6,9 +6,9 @@ use Rattle.common.specs.Totals.{sum, only_eq, sum_ext}
 use Rattle.model.specs.Model.{Queue, Valid, Sender, deadline_of, up_to, due_at, precedes, row_followers, followers, number}
 use Rattle.model.specs.Model.{first, last, slots}
 use Rattle.model.specs.Source.{Ahead}
-use Rattle.model.specs.Ties.{prec_irrefl, prec_higher, prec_equal, prec_iff}
-use Rattle.model.specs.Number.{number_less}
-use Rattle.model.specs.WayBack.{due_at_job}
+use Rattle.model.proofs.Ties.{prec_irrefl, prec_higher, prec_equal, prec_iff}
+use Rattle.model.proofs.Number.{number_less}
+use Rattle.model.proofs.WayBack.{due_at_job}
 use Rattle.priorities.specs.Priorities.{Permuted, OnePriority, Told, by_row}
 use Rattle.priorities.specs.Sums.{sum_permuted}
 use Rattle.priorities.specs.Permuted.{deadline_permuted, due_permuted, up_to_permuted, slots_permuted}

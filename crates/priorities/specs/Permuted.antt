@@ -5,8 +5,8 @@ use Rattle.common.specs.Totals.{sum, sum_ext}
 use Rattle.model.specs.Model.{Queue, Valid, Sender, receiver_period, receiver_deadline, release_of, deadline_of, row_up_to, up_to, due_at}
 use Rattle.model.specs.Model.{number, first, last, wanted_for, hyperperiod, row_messages, messages, slots}
 use Rattle.model.specs.Source.{Fit, outdated_at, CommonMultiple}
-use Rattle.model.specs.Multiple.{hyperperiod_common, hyperperiod_least}
-use Rattle.model.specs.Slots.{slots_fit, slots_least}
+use Rattle.model.proofs.Multiple.{hyperperiod_common, hyperperiod_least}
+use Rattle.model.proofs.Slots.{slots_fit, slots_least}
 use Rattle.priorities.specs.Priorities.{Permuted}
 use Rattle.priorities.specs.Sums.{sum_permuted}
 

@@ -1,7 +1,7 @@
 -- Slots and numbers of an accepted call stay within their bounds.
 use Rattle.common.specs.Words.{ℕ, ◌+◌, ◌*◌, ◌^◌, ◌<◌, ◌≤◌, arith, mod-lt, div-mul-le_self, List, length}
 use Rattle.model.specs.Model.{receiver_period, up_to, last}
-use Rattle.model.specs.Number.{up_to_mono}
+use Rattle.model.proofs.Number.{up_to_mono}
 use Rattle.plan.specs.Limits.{task_limit, last_tick, payload_bytes, slot_bytes}
 use Rattle.plan.specs.Plan.{queue_at, size_at, place_at, slots_of}
 use Rattle.plan.specs.Sound.{Sound, usable, inside}

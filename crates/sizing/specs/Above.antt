@@ -2,8 +2,8 @@
 use Rattle.common.specs.Words.{ℕ, ◌+◌, ◌-◌, ◌<◌, ◌≤◌, arith, le_trans, Bool, true, false, cond, ◌≡◌, refl, sym, ◌∙◌}
 use Rattle.common.specs.Totals.{only, sum, sum_add, sum_ext}
 use Rattle.model.specs.Model.{Queue, Valid, count, precedes, row_up_to, up_to}
-use Rattle.model.specs.Count.{count_mono}
-use Rattle.model.specs.Order.{period_pos}
+use Rattle.model.proofs.Count.{count_mono}
+use Rattle.model.proofs.Order.{period_pos}
 use Rattle.counting.specs.Until.{row_until, until_on, until_off, until_near}
 
 -- row j's messages up to row i's, which is due in the tick after b, and after the horizon h

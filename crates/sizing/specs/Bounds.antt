@@ -3,7 +3,7 @@ use Rattle.common.specs.Words.{ℕ, ◌+◌, ◌*◌, ◌/◌, ◌≤◌, arith,
 use Rattle.common.specs.Totals.{only, only_most, sum_bound, most_le}
 use Rattle.model.specs.Model.{slots}
 use Rattle.model.specs.Source.{reach, equation3}
-use Rattle.model.specs.Equation3.{slots_bound}
+use Rattle.model.proofs.Equation3.{slots_bound}
 use Rattle.plan.specs.Limits.{task_limit, longest_period}
 use Rattle.plan.specs.Plan.{queue_at, Usable}
 use Rattle.plan.specs.declared.Plan.{Plan}

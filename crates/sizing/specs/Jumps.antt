@@ -4,8 +4,8 @@ use Rattle.common.specs.Words.{ℕ, ◌+◌, ◌<◌, ◌≤◌, max, arith, le_
 use Rattle.common.specs.Tests.{lt_or_le}
 use Rattle.common.specs.Totals.{most, most_le}
 use Rattle.model.specs.Model.{Queue, Valid, Sender, release_of, number}
-use Rattle.model.specs.Number.{number_less}
-use Rattle.model.specs.Order.{period_pos}
+use Rattle.model.proofs.Number.{number_less}
+use Rattle.model.proofs.Order.{period_pos}
 use Rattle.sizing.specs.Needs.{horizon_for, number_for, need_for, horizon_stays}
 
 -- f j makes up for the values from k to j

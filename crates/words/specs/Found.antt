@@ -4,7 +4,7 @@ use Rattle.common.specs.Words.{ℕ, suc, ◌+◌, ◌-◌, ◌*◌, ◌%◌, ◌
 use Rattle.common.specs.Words.{◌&&◌, List, [], ◌∷◌, ◌++◌, ◌⊎◌, inl, inr, ⊎_elim}
 use Rattle.common.specs.Words.{◌≡◌, refl, sym, ap, ◌∙◌, eqb, leb, eqb-true, leb-true, length, get_or, replicate}
 use Rattle.common.specs.Tests.{clash, true_or_false, and_left, and_right}
-use Rattle.common.specs.Rows.{every, every_at}
+use Rattle.common.proofs.Rows.{every, every_at}
 use Rattle.common.specs.Stores.{part}
 use Rattle.words.specs.Letters.{words_by, same, same_eq, same_refl}
 use Rattle.words.specs.Words.{listed, rank, kind_of, first_word, NAME}

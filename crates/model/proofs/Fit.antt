@@ -3,9 +3,9 @@ use Rattle.common.specs.Words.{ℕ, ◌+◌, ◌-◌, ◌<◌, ◌≤◌, arith,
 use Rattle.common.specs.Tests.{lt_or_le, having}
 use Rattle.model.specs.Model.{Queue, Valid, Sender, up_to, release_of, deadline_of, number, horizon, outdated}
 use Rattle.model.specs.Source.{Fit, outdated_at}
-use Rattle.model.specs.Order.{deadline_positive}
-use Rattle.model.specs.Number.{number_iff, number_onto}
-use Rattle.model.specs.Outdating.{outdated_iff, outdated_after}
+use Rattle.model.proofs.Order.{deadline_positive}
+use Rattle.model.proofs.Number.{number_iff, number_onto}
+use Rattle.model.proofs.Outdating.{outdated_iff, outdated_after}
 
 -- each message (i, k) finds its slot free: all but L of the messages up to it are outdated when its job is released
 abbrev pub Free : Queue → ℕ → ℕ → ℕ → Type 0

@@ -5,8 +5,8 @@ use Rattle.common.specs.Words.{◌≡◌, refl, sym, subst, ◌∙◌}
 use Rattle.common.specs.Tests.{lt_or_le, true_or_false, clash}
 use Rattle.model.specs.Model.{Queue, Valid, Sender, deadline_of, count_of, precedes}
 use Rattle.model.specs.Source.{Before, jobs_before}
-use Rattle.model.specs.Count.{count_iff}
-use Rattle.model.specs.Ties.{prec_irrefl, prec_trans, prec_total}
+use Rattle.model.proofs.Count.{count_iff}
+use Rattle.model.proofs.Ties.{prec_irrefl, prec_trans, prec_total}
 
 module _ (q : Queue) where
   pub before_irrefl : (i k : ℕ) → Before q i k i k → ⊥

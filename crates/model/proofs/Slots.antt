@@ -6,11 +6,11 @@ use Rattle.common.specs.Tests.{lt_or_le, true_or_false}
 use Rattle.common.specs.Totals.{most_le}
 use Rattle.model.specs.Model.{Queue, Valid, Sender, receiver_period, release_of, wanted_for, need, row_slots, slots_over, slots, hyperperiod}
 use Rattle.model.specs.Source.{CommonMultiple, Fit}
-use Rattle.model.specs.Order.{period_pos}
-use Rattle.model.specs.Outdating.{wanted_fits}
-use Rattle.model.specs.Fit.{Free, fit_iff, fit_pos}
-use Rattle.model.specs.Multiple.{hyperperiod_common}
-use Rattle.model.specs.Later.{release_later, number_later, outdated_later, outdated_later_le}
+use Rattle.model.proofs.Order.{period_pos}
+use Rattle.model.proofs.Outdating.{wanted_fits}
+use Rattle.model.proofs.Fit.{Free, fit_iff, fit_pos}
+use Rattle.model.proofs.Multiple.{hyperperiod_common}
+use Rattle.model.proofs.Later.{release_later, number_later, outdated_later, outdated_later_le}
 
 module _ (q : Queue) (v : Valid q) where
   module _ (H : ℕ) (hy : CommonMultiple q H) where

@@ -5,10 +5,10 @@ use Rattle.common.specs.Totals.{only, only_eq, only_add, sum_ext, sum_add}
 use Rattle.model.specs.Model.{Queue, Valid, Sender, receiver_period, messages, count_of, up_to, release_of, deadline_of}
 use Rattle.model.specs.Model.{number, precedes, horizon, wanted_for, outdated}
 use Rattle.model.specs.Source.{CommonMultiple, jobs_before}
-use Rattle.model.specs.Count.{count_hyper}
-use Rattle.model.specs.Order.{period_pos, deadline_positive}
-use Rattle.model.specs.Number.{up_to_mono, number_counts}
-use Rattle.model.specs.Outdating.{horizon_later, horizon_later_le}
+use Rattle.model.proofs.Count.{count_hyper}
+use Rattle.model.proofs.Order.{period_pos, deadline_positive}
+use Rattle.model.proofs.Number.{up_to_mono, number_counts}
+use Rattle.model.proofs.Outdating.{horizon_later, horizon_later_le}
 
 module _ (q : Queue) (v : Valid q) (H : ℕ) (hy : CommonMultiple q H) where
   -- a hyperperiod later: `messages` messages more

@@ -5,8 +5,8 @@ use Rattle.common.specs.Words.{zero-mul, ◌↔◌, ◌≡◌}
 use Rattle.common.specs.Tests.{having}
 use Rattle.model.specs.Model.{Queue, Valid, Sender, receiver_period, deadline_of, up_to, number, first, last}
 use Rattle.model.specs.Source.{job_for}
-use Rattle.model.specs.Number.{number_iff, up_to_zero, up_to_mono}
-use Rattle.model.specs.Outdating.{job_from, job_first}
+use Rattle.model.proofs.Number.{number_iff, up_to_zero, up_to_mono}
+use Rattle.model.proofs.Outdating.{job_from, job_first}
 
 module _ (q : Queue) (v : Valid q) where
   pub last_iff : (m i k : ℕ) → Sender q i → (number q i k ≤ last q m) ↔ (deadline_of q i k ≤ m * receiver_period q)

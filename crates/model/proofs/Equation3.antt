@@ -3,12 +3,12 @@ use Rattle.common.specs.Words.{ℕ, ◌+◌, ◌/◌, ◌<◌, ◌≤◌, arith,
 use Rattle.common.specs.Totals.{only, sum, only_le, only_add, sum_add, sum_le, most_le}
 use Rattle.model.specs.Model.{Queue, Valid, Sender, count_of, up_to, release_of, deadline_of, horizon, outdated, slots}
 use Rattle.model.specs.Source.{Fit, reach, equation3}
-use Rattle.model.specs.Count.{count_within}
-use Rattle.model.specs.Order.{period_pos}
-use Rattle.model.specs.Number.{up_to_mono, number_below}
-use Rattle.model.specs.Outdating.{horizon_near}
-use Rattle.model.specs.Fit.{fit_iff}
-use Rattle.model.specs.Slots.{slots_least}
+use Rattle.model.proofs.Count.{count_within}
+use Rattle.model.proofs.Order.{period_pos}
+use Rattle.model.proofs.Number.{up_to_mono, number_below}
+use Rattle.model.proofs.Outdating.{horizon_near}
+use Rattle.model.proofs.Fit.{fit_iff}
+use Rattle.model.proofs.Slots.{slots_least}
 
 module _ (q : Queue) (v : Valid q) where
   -- x ticks hold at most x / P + 1 deadlines of a sender

@@ -7,8 +7,8 @@ use Rattle.common.specs.Words.{dvd_of_mul-dvd-mul_left, add-one, arith}
 use Rattle.common.specs.Tests.{lt_or_le}
 use Rattle.model.specs.Model.{Queue, Valid, Sender, gcd, lcm, multiple, hyperperiod, receiver_period}
 use Rattle.model.specs.Source.{CommonMultiple}
-use Rattle.model.specs.Gcd.{gcd_is, gcd_scaled}
-use Rattle.model.specs.Order.{period_pos}
+use Rattle.model.proofs.Gcd.{gcd_is, gcd_scaled}
+use Rattle.model.proofs.Order.{period_pos}
 
 -- ## Two numbers
 

@@ -3,11 +3,11 @@
 use Rattle.common.specs.Words.{ℕ, zero, suc, ◌-◌, ◌<◌, ◌≤◌, arith, mul-div_cancel, add-sub_cancel, lt_of_not-le, not-le_of_lt, Bool, true, false}
 use Rattle.common.specs.Words.{not, ◌↔◌, ⊎_elim, ◌≡◌, refl, sym, ◌∙◌, ltb, lt-ltb, le-ltb, eq-eqb, eqb-true, ltb-false, ltb-true}
 use Rattle.common.specs.Tests.{lt_or_le, having, and_left, and_right}
-use Rattle.common.specs.Rows.{first_bad, FirstBad, first_bad_is, first_bad_only}
+use Rattle.common.proofs.Rows.{first_bad, FirstBad, first_bad_is, first_bad_only}
 use Rattle.model.specs.Model.{Queue, Valid, Sender, deadline_of, up_to, due_at, followers, number, tick_of, sent_by, sender_of, job_of}
-use Rattle.model.specs.Count.{has_job}
-use Rattle.model.specs.Order.{period_pos, deadline_positive}
-use Rattle.model.specs.Number.{up_to_mono, up_to_zero, number_iff, number_above, number_below, number_inj, number_at, due_at_own}
+use Rattle.model.proofs.Count.{has_job}
+use Rattle.model.proofs.Order.{period_pos, deadline_positive}
+use Rattle.model.proofs.Number.{up_to_mono, up_to_zero, number_iff, number_above, number_below, number_inj, number_at, due_at_own}
 
 module _ (q : Queue) (v : Valid q) where
   -- a tick that has n messages up to it, where the tick before has fewer

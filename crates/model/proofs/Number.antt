@@ -8,9 +8,9 @@ use Rattle.model.specs.Model.{Queue, Valid, Sender, has_deadline, deadline_of, c
 use Rattle.model.specs.Source.{Before, jobs_before}
 use Rattle.common.specs.Tests.{lt_or_le, true_or_false, having, clash, and_left, and_right}
 use Rattle.common.specs.Rank.{size, rank, rank_less, rank_onto}
-use Rattle.model.specs.Count.{count_mono, count_before, count_le, count_own, count_tick, has_own, has_job}
-use Rattle.model.specs.Ties.{prec_irrefl, prec_trans, prec_total, prec_asym, prec_ne}
-use Rattle.model.specs.Order.{period_pos, deadline_positive, before_total}
+use Rattle.model.proofs.Count.{count_mono, count_before, count_le, count_own, count_tick, has_own, has_job}
+use Rattle.model.proofs.Ties.{prec_irrefl, prec_trans, prec_total, prec_asym, prec_ne}
+use Rattle.model.proofs.Order.{period_pos, deadline_positive, before_total}
 
 module _ (q : Queue) (v : Valid q) where
   pub up_to_mono : (t u : ℕ) → t ≤ u → up_to q t ≤ up_to q u
