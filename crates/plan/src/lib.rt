@@ -67,17 +67,17 @@ impl Plan {
 
 // The limits that the definitions name are those of the code.
 pub fn limits_agree() -> bool
-    ensures value { result ≡ true }
-    ensures* do_value { do ⌜ (← (⟦Plan::TASKS⟧).entry) ≡ task_limit ⌝ }
-    ensures* do_value_2 { do ⌜ (← (⟦Plan::QUEUES⟧).entry) ≡ queue_limit ⌝ }
-    ensures* do_value_3 { do ⌜ (← (⟦Plan::CELLS⟧).entry) ≡ cell_limit ⌝ }
-    ensures* do_value_4 { do ⌜ (← (⟦Plan::LONGEST_PERIOD⟧).entry) ≡ longest_period ⌝ }
-    ensures* do_value_5 { do ⌜ (← (⟦Plan::LONGEST_HYPERPERIOD⟧).entry) ≡ longest_hyperperiod ⌝ }
-    ensures* do_value_6 { do ⌜ (← (⟦Plan::MOST_MESSAGES⟧).entry) ≡ most_messages ⌝ }
-    ensures* do_value_7 { do ⌜ (← (⟦Plan::MOST_SLOTS⟧).entry) ≡ most_slots ⌝ }
-    ensures* do_value_8 { do ⌜ (← (⟦Plan::LAST_TICK⟧).entry) ≡ last_tick ⌝ }
-    ensures* do_value_9 { do ⌜ (← (⟦Plan::PAYLOAD_BYTES⟧).entry) ≡ payload_bytes ⌝ }
-    ensures* do_value_10 { do ⌜ (← (⟦Plan::SLOT_BYTES⟧).entry) ≡ slot_bytes ⌝ }
+    ensures answer { result ≡ true }
+    ensures tasks { Plan.TASKS ≡ task_limit }
+    ensures queues { Plan.QUEUES ≡ queue_limit }
+    ensures cells { Plan.CELLS ≡ cell_limit }
+    ensures longest_period { Plan.LONGEST_PERIOD ≡ longest_period }
+    ensures longest_hyperperiod { Plan.LONGEST_HYPERPERIOD ≡ longest_hyperperiod }
+    ensures most_messages { Plan.MOST_MESSAGES ≡ most_messages }
+    ensures most_slots { Plan.MOST_SLOTS ≡ most_slots }
+    ensures last_tick { Plan.LAST_TICK ≡ last_tick }
+    ensures payload_bytes { Plan.PAYLOAD_BYTES ≡ payload_bytes }
+    ensures slot_bytes { Plan.SLOT_BYTES ≡ slot_bytes }
 {
     true
 }
