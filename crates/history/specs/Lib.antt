@@ -1,19 +1,4 @@
--- The pages of this crate's definitions and laws.
+-- The pages of this crate's definitions; the laws about them stand in proofs/.
 pub mod Types
 pub mod History
 pub mod Smaller
-pub mod Steps
-pub mod Ground
-pub mod Invariant
-pub mod Holds
-pub mod Order
-pub mod Answers
-pub mod Reading
-pub mod Short
-pub mod Resized
-pub mod Least
-pub mod Same
-pub mod Made
-pub mod Lists
-pub mod Theorems
-pub mod Example

@@ -1,17 +1,5 @@
--- The pages of this crate's definitions and laws.
+-- The pages of this crate's definitions; the laws about them stand in proofs/.
 pub mod Types
 pub mod Said
 pub mod Log
 pub mod Session
-pub mod Fields
-pub mod Lines
-pub mod Widths
-pub mod Frames
-pub mod ReadBack
-pub mod Turns
-pub mod Entries
-pub mod Follows
-pub mod Verbatim
-pub mod Started
-pub mod Theorems
-pub mod Example

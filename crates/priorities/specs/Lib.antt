@@ -1,6 +1,2 @@
--- The pages of this crate's definitions and laws.
+-- The pages of this crate's definitions; the laws about them stand in proofs/.
 pub mod Priorities
-pub mod Sums
-pub mod Permuted
-pub mod Order
-pub mod Theorems

@@ -17,8 +17,8 @@ use Rattle.slots.specs.Slots.{number_in, payload_in}
 use Rattle.slots.specs.SlotLaws.{number_same, number_other, payload_same, payload_other, length_stored}
 use Rattle.mailbox.specs.Calls.{slot_for, running_job}
 use Rattle.history.specs.History.{Call, send, World, History, ◌⊑◌, same, more, world, Sends, accepted_as}
-use Rattle.history.specs.Steps.{CanSend, number_at, sent_world, next, send_stores, Step, sends, finds, ends, stays, step}
-use Rattle.history.specs.Ground.{valid_at, slots_differ, bytes_inside, number_fits, slot_waits}
+use Rattle.history.proofs.Steps.{CanSend, number_at, sent_world, next, send_stores, Step, sends, finds, ends, stays, step}
+use Rattle.history.proofs.Ground.{valid_at, slots_differ, bytes_inside, number_fits, slot_waits}
 
 -- the parts of state and memory keep their lengths
 pub record Shape (p : Plan) (w : World) : Type 0 where

@@ -16,7 +16,7 @@ use Rattle.slots.specs.Slots.{bytes_of, number_from, stored, cleared}
 use Rattle.running.specs.Calls as running
 use Rattle.running.specs.View.{view_of}
 use Rattle.mailbox.specs.Calls.{start_answer, start_memory, send_state, receive_state, found}
-use Rattle.history.specs.Example.{table_a, payload, sender_one, sender_three}
+use Rattle.history.proofs.Example.{table_a, payload, sender_one, sender_three}
 use Rattle.digits.specs.Hex.{digit, is_line, bytes_in, digits}
 use Rattle.digits.specs.Numbers.{value_at, in_bytes}
 use Rattle.frames.specs.Frames.{frame_of, payload_in}
@@ -27,7 +27,7 @@ use Rattle.feed.specs.Answers.{console_after, answers_to}
 use Rattle.logs.specs.Types.{Plan}
 use Rattle.logs.specs.Said.{said_in}
 use Rattle.logs.specs.Log.{log_of, opened, session_log, desk_after, AcceptedIn, StoredIn, lines_to, EndedIn, AmongLines}
-use Rattle.logs.specs.Theorems.{stored_is_told}
+use Rattle.logs.proofs.Theorems.{stored_is_told}
 
 -- "0500000000000a"
 abbrev receive_line : List ℕ

@@ -17,13 +17,13 @@ use Rattle.mailbox.specs.Calls.{running_job, receiving_job}
 use Rattle.running.specs.View.{view_of}
 use Rattle.history.specs.History.{Call, send, receive, World, send_says, History, start, ◌then◌, ◌⊑◌, same, more, Begins, world, receive_says}
 use Rattle.history.specs.History.{Sends, accepted_as, SentIn, Tells, of_gap, AcceptedCall, tells, empty, read_by, numbers, up_from, window_numbers}
-use Rattle.history.specs.Steps.{CanReceive, next, after_finds, receive_moves, Step, sends, finds, ends, stays, step}
-use Rattle.history.specs.Ground.{valid_at, Fitting, slot_waits, div_mono}
-use Rattle.history.specs.Invariant.{Shape, Inv, held, bytes, unsent, sent_is, tick_mono}
-use Rattle.history.specs.Holds.{holds, shaped}
-use Rattle.history.specs.Order.{Order, order, every_pos, up_append, length_up}
-use Rattle.history.specs.Answers.{Answered, finding, missing, ended, answered, answered_so, Told, told, told_window, told_deadline}
-use Rattle.history.specs.Answers.{told_outdated, shown, in_time}
+use Rattle.history.proofs.Steps.{CanReceive, next, after_finds, receive_moves, Step, sends, finds, ends, stays, step}
+use Rattle.history.proofs.Ground.{valid_at, Fitting, slot_waits, div_mono}
+use Rattle.history.proofs.Invariant.{Shape, Inv, held, bytes, unsent, sent_is, tick_mono}
+use Rattle.history.proofs.Holds.{holds, shaped}
+use Rattle.history.proofs.Order.{Order, order, every_pos, up_append, length_up}
+use Rattle.history.proofs.Answers.{Answered, finding, missing, ended, answered, answered_so, Told, told, told_window, told_deadline}
+use Rattle.history.proofs.Answers.{told_outdated, shown, in_time}
 
 -- ## A send is its job's
 

@@ -12,9 +12,9 @@ use Rattle.slots.specs.SlotLaws.{length_cleared, number_cleared, behind_stored, 
 use Rattle.mailbox.specs.Calls.{start_lines, start_answer, start_memory, slot_for}
 use Rattle.plan.specs.Verdicts.{Passed, Stopped, passed_good, stopped_refused, passed_or_stopped}
 use Rattle.history.specs.History.{Call, send, World, History, start, ◌then◌, Begins, begun, world, Sends, SentIn}
-use Rattle.history.specs.Steps.{CanSend, Step, sends, finds, ends, stays, step, sent_world, number_at}
-use Rattle.history.specs.Ground.{Fitting, slot_inside_lem}
-use Rattle.history.specs.Invariant.{Shape, Inv, held, step_shape, untouched, other_inv, own_inv}
+use Rattle.history.proofs.Steps.{CanSend, Step, sends, finds, ends, stays, step, sent_world, number_at}
+use Rattle.history.proofs.Ground.{Fitting, slot_inside_lem}
+use Rattle.history.proofs.Invariant.{Shape, Inv, held, step_shape, untouched, other_inv, own_inv}
 
 -- ## The start
 

@@ -9,17 +9,17 @@ use Rattle.calls.specs.CallLines.{filler}
 use Rattle.feed.specs.Answers as feed
 use Rattle.history.specs.History.{World, History, Begins, world, history, go_on, Reading, number_told, numbers, Fair, as_sent, nothing_sent, SentIn}
 use Rattle.history.specs.History.{AllFair, Among, ReadToEnd}
-use Rattle.history.specs.Answers.{Answered, ended, answered_so}
-use Rattle.history.specs.Theorems.{same_readings}
+use Rattle.history.proofs.Answers.{Answered, ended, answered_so}
+use Rattle.history.proofs.Theorems.{same_readings}
 use Rattle.logs.specs.Types.{Plan, Answer, Planned, Started, Received, Frame, Desk}
 use Rattle.logs.specs.Said.{frame_in, payload_of, code_in}
-use Rattle.logs.specs.Lines.{refusal_code}
-use Rattle.logs.specs.Frames.{turn_of, line_turn_lem}
-use Rattle.logs.specs.Turns.{Acts, sends, receives, idles, running_acts}
+use Rattle.logs.proofs.Lines.{refusal_code}
+use Rattle.logs.proofs.Frames.{turn_of, line_turn_lem}
+use Rattle.logs.proofs.Turns.{Acts, sends, receives, idles, running_acts}
 use Rattle.logs.specs.Log.{Log, log_of, written, opened, session_log, desk_after, calls_in, AcceptedIn, SameTable, StoredIn, lines_to, EndedIn}
 use Rattle.logs.specs.Log.{RightLine, as_stored, nothing_stored, RightLines, AmongLines}
 use Rattle.logs.specs.Session.{line_for, Runs, AsHistory, calls}
-use Rattle.logs.specs.Follows.{run_lines, SessionComes, never, started, session_comes}
+use Rattle.logs.proofs.Follows.{run_lines, SessionComes, never, started, session_comes}
 
 pub has_started : (m : List ℕ) (lines : List (List ℕ)) → (desk_after m lines).running ≡ true → AsHistory m lines
 has_started m lines on = go (session_comes m lines)

@@ -8,7 +8,7 @@ use Rattle.model.specs.Source.{Fit, outdated_at, CommonMultiple}
 use Rattle.model.proofs.Multiple.{hyperperiod_common, hyperperiod_least}
 use Rattle.model.proofs.Slots.{slots_fit, slots_least}
 use Rattle.priorities.specs.Priorities.{Permuted}
-use Rattle.priorities.specs.Sums.{sum_permuted}
+use Rattle.priorities.proofs.Sums.{sum_permuted}
 
 module _ {q p : Queue} {s r : ℕ → ℕ} (m : Permuted q p s r) where
   pub permuted_sender : (i : ℕ) → Sender q i → Sender p (s i)

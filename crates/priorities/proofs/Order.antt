@@ -10,8 +10,8 @@ use Rattle.model.proofs.Ties.{prec_irrefl, prec_higher, prec_equal, prec_iff}
 use Rattle.model.proofs.Number.{number_less}
 use Rattle.model.proofs.WayBack.{due_at_job}
 use Rattle.priorities.specs.Priorities.{Permuted, OnePriority, Told, by_row}
-use Rattle.priorities.specs.Sums.{sum_permuted}
-use Rattle.priorities.specs.Permuted.{deadline_permuted, due_permuted, up_to_permuted, slots_permuted}
+use Rattle.priorities.proofs.Sums.{sum_permuted}
+use Rattle.priorities.proofs.Permuted.{deadline_permuted, due_permuted, up_to_permuted, slots_permuted}
 
 -- "Of two messages of a queue with equal deadlines, the higher priority has the lower number; of equal priorities, the lower row."
 pub ahead_lower : (q : Queue) → Valid q → (i k j l : ℕ) → Sender q i → Sender q j →

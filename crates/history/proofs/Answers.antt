@@ -18,9 +18,9 @@ use Rattle.running.specs.View.{view_of}
 use Rattle.plan.specs.Verdicts.{Passed, Stopped, passed_or_stopped}
 use Rattle.history.specs.History.{Call, World, receive_says, Sends, accepted_as, Tells, of_message, of_gap}
 use Rattle.judge.specs.Taken.{receive_passed}
-use Rattle.history.specs.Steps.{CanReceive, next, last_at, receive_finds, receive_ends, receive_refused, Step, sends, stays}
-use Rattle.history.specs.Ground.{valid_at, bytes_inside}
-use Rattle.history.specs.Invariant.{held, bytes, sent_is}
+use Rattle.history.proofs.Steps.{CanReceive, next, last_at, receive_finds, receive_ends, receive_refused, Step, sends, stays}
+use Rattle.history.proofs.Ground.{valid_at, bytes_inside}
+use Rattle.history.proofs.Invariant.{held, bytes, sent_is}
 
 pub data Answered (p : Plan) (w : World) (q t : ℕ) : Received → Type 0 where
   finding : CanReceive p w q t → next p w q t ≤ last_at p w q t → held p q w (next p w q t) ≡ next p w q t →

@@ -13,9 +13,9 @@ use Rattle.logs.specs.Types.{Tick, Plan, Sent, Received, Frame}
 use Rattle.logs.specs.Said.{frame_in, payload_of, code_in, said_in, received_told}
 use Rattle.logs.specs.Log.{Entry, Log, Stores, StoredIn, asks, tells, lines_to, Ends, EndedIn}
 use Rattle.logs.specs.Session.{line_for}
-use Rattle.logs.specs.Widths.{send_fits, receive_fits}
-use Rattle.logs.specs.ReadBack.{sent_back, received_back}
-use Rattle.logs.specs.Turns.{Quiet}
+use Rattle.logs.proofs.Widths.{send_fits, receive_fits}
+use Rattle.logs.proofs.ReadBack.{sent_back, received_back}
+use Rattle.logs.proofs.Turns.{Quiet}
 
 -- ## One log behind the other
 

@@ -14,7 +14,7 @@ use Rattle.console.specs.Framing.{framed_bytes}
 use Rattle.logs.specs.Types.{Tick, Frame}
 use Rattle.logs.specs.Said.{frame_in, payload_of}
 use Rattle.logs.specs.Log.{Entry, Stores}
-use Rattle.logs.specs.Fields.{digits_at}
+use Rattle.logs.proofs.Fields.{digits_at}
 
 -- ## A line is the digits of its bytes
 

@@ -8,8 +8,8 @@ use Rattle.plan.specs.Sound.{sound_iff, usable}
 use Rattle.plan.specs.declared.Plan.{Plan}
 use Rattle.planning.specs.Planning.{Made}
 use Rattle.priorities.specs.Priorities.{Permuted, Sorted, Told, with_priority}
-use Rattle.priorities.specs.Permuted.{hyperperiod_permuted, messages_permuted}
-use Rattle.priorities.specs.Order.{number_sorted, slots_sorted}
+use Rattle.priorities.proofs.Permuted.{hyperperiod_permuted, messages_permuted}
+use Rattle.priorities.proofs.Order.{number_sorted, slots_sorted}
 
 module _ {a b : Plan} {s r : ℕ → ℕ} (x : Sorted a b s r) (made : Made a) (q : ℕ) (counted : q < a.queues) where
   valid : Valid (queue_at a q)

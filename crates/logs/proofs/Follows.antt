@@ -10,15 +10,15 @@ use Rattle.calls.specs.CallLines.{sent_bytes, filler, received_bytes}
 use Rattle.feed.specs.Answers as feed
 use Rattle.history.specs.History.{Call, send, receive, World, History, start, ◌then◌, same, more, Begins, after, world, send_says, receive_says, go_on}
 use Rattle.history.specs.History.{history, SentIn, Sends, reads, read_by, ReadToEnd}
-use Rattle.history.specs.Lists.{go_on_append}
+use Rattle.history.proofs.Lists.{go_on_append}
 use Rattle.logs.specs.Types.{Tick, Plan, Started, Received, Frame, Desk}
 use Rattle.logs.specs.Said.{frame_in, payload_of}
 use Rattle.logs.specs.Log.{Entry, Log, log_of, opened, call_made, calls_in, Stores, StoredIn, lines_to, Ends, EndedIn}
 use Rattle.logs.specs.Session.{line_for, state_and_memory, Runs}
-use Rattle.logs.specs.Frames.{sending, receiving, line_turn_lem}
-use Rattle.logs.specs.Turns.{Acts, sends, receives, idles, running_acts, Quiet, Waits, starts, waits, waiting}
-use Rattle.logs.specs.Entries.{stored_append, ended_append, lines_append, quiet_stores, quiet_ends, quiet_lines, sent_stores, sent_ends}
-use Rattle.logs.specs.Entries.{sent_lines, received_stores, received_empty, received_lines}
+use Rattle.logs.proofs.Frames.{sending, receiving, line_turn_lem}
+use Rattle.logs.proofs.Turns.{Acts, sends, receives, idles, running_acts, Quiet, Waits, starts, waits, waiting}
+use Rattle.logs.proofs.Entries.{stored_append, ended_append, lines_append, quiet_stores, quiet_ends, quiet_lines, sent_stores, sent_ends}
+use Rattle.logs.proofs.Entries.{sent_lines, received_stores, received_empty, received_lines}
 
 -- ## One line more
 

@@ -18,12 +18,12 @@ use Rattle.mailbox.specs.Calls.{start_memory, send_state, receive_state, found}
 use Rattle.history.specs.Types.{Plan, Sent, Received}
 use Rattle.history.specs.History.{History, start, ◌then◌, send, receive, same, Begins, after, world, send_says, receive_says, accepted_as}
 use Rattle.history.specs.History.{SentIn, Reading, read_by, window_numbers, Among, ReadToEnd}
-use Rattle.history.specs.Ground.{valid_at}
-use Rattle.history.specs.Made.{blank, blank_begins}
+use Rattle.history.proofs.Ground.{valid_at}
+use Rattle.history.proofs.Made.{blank, blank_begins}
 use Rattle.planning.specs.AcceptedPlan.{Made}
-use Rattle.history.specs.Resized.{resized}
-use Rattle.history.specs.Least.{Lost}
-use Rattle.history.specs.Theorems.{least, sent_is_read}
+use Rattle.history.proofs.Resized.{resized}
+use Rattle.history.proofs.Least.{Lost}
+use Rattle.history.proofs.Theorems.{least, sent_is_read}
 
 -- "tasks 5/5, 7/7, 10/10 (period/deadline); the first two send to the third", with the 9 slots that it rules
 abbrev pub table_a : Plan

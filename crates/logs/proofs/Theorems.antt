@@ -19,16 +19,16 @@ use Rattle.feed.specs.Answers.{console_after, answers_to}
 use Rattle.feed.specs.Feed.{Feeding}
 use Rattle.feed.specs.Session.{Answered, session}
 use Rattle.history.specs.History.{History, Begins, go_on, read_by, numbers, window_numbers, ReadToEnd}
-use Rattle.history.specs.Lists.{goes_on}
-use Rattle.history.specs.Made.{made_fits}
-use Rattle.history.specs.Same.{read_to_end}
-use Rattle.history.specs.Theorems as history
+use Rattle.history.proofs.Lists.{goes_on}
+use Rattle.history.proofs.Made.{made_fits}
+use Rattle.history.proofs.Same.{read_to_end}
+use Rattle.history.proofs.Theorems as history
 use Rattle.logs.specs.Types.{Plan}
 use Rattle.logs.specs.Log.{Entry, Log, written, opened, session_log, desk_after, calls_in, AcceptedIn, Stores, StoredIn, lines_to, SameTable}
 use Rattle.logs.specs.Log.{EndedIn, RightLines, AmongLines}
-use Rattle.logs.specs.Verbatim.{message_verbatim}
+use Rattle.logs.proofs.Verbatim.{message_verbatim}
 use Rattle.logs.specs.Session.{Runs, AsHistory, calls}
-use Rattle.logs.specs.Started.{has_started, accepted_runs, log_written, runs_later, right_lines, among_lines, end_queue, same_plan, same_runs}
+use Rattle.logs.proofs.Started.{has_started, accepted_runs, log_written, runs_later, right_lines, among_lines, end_queue, same_plan, same_runs}
 
 -- What the program writes of a text, in whatever blocks the text came and with or without a line feed at its end, is the log's answers.
 pub output_is_the_log : (m text : List ℕ) (f : Feeding) → Answered (opened m) [] text f →

@@ -20,10 +20,10 @@ use Rattle.planning.specs.Planning.{first_lines, table_lines, refused_plan, acce
 use Rattle.mailbox.specs.Calls.{start_lines, start_answer, send_lines, send_answer, receive_lines, look, running_job, receiving_job}
 use Rattle.mailbox.specs.Refused.{start_refused, send_refused, receive_refused}
 use Rattle.history.specs.History.{World, send, accepted_as, of_gap}
-use Rattle.history.specs.Steps.{Step, sends, stays, step, send_stores, number_at, next}
-use Rattle.history.specs.Ground.{valid_at}
-use Rattle.history.specs.Answers.{Answered, finding, missing, ended, refused, answered_so, told, told_window}
-use Rattle.history.specs.Holds.{ready_sound}
+use Rattle.history.proofs.Steps.{Step, sends, stays, step, send_stores, number_at, next}
+use Rattle.history.proofs.Ground.{valid_at}
+use Rattle.history.proofs.Answers.{Answered, finding, missing, ended, refused, answered_so, told, told_window}
+use Rattle.history.proofs.Holds.{ready_sound}
 use Rattle.logs.specs.Types.{Plan, Refusal, Answer, Planned, Started, Sent, Received, State}
 
 -- ## Rows of refusals

@@ -13,11 +13,11 @@ use Rattle.running.specs.View.{view_of}
 use Rattle.history.specs.History.{Call, send, receive, ask_number, ask_way_back, ask_window, ask_view, World, History, start, ◌then◌, ◌⊑◌, same}
 use Rattle.history.specs.History.{more, Begins, world, receive_says, SentIn, Reading, readings, reads, read_by, numbers, number_told, up_from}
 use Rattle.history.specs.History.{window_numbers, Fair, as_sent, nothing_sent, AllFair, Among, ReadToEnd}
-use Rattle.history.specs.Steps.{next}
-use Rattle.history.specs.Ground.{Fitting, valid_at}
-use Rattle.history.specs.Order.{order, numbers_append, length_up}
-use Rattle.history.specs.Answers.{Answered, finding, missing, ended, refused, answered, answered_so}
-use Rattle.history.specs.Reading.{message_as_sent, sent_same, gap_never_sent, empty_when_all_read}
+use Rattle.history.proofs.Steps.{next}
+use Rattle.history.proofs.Ground.{Fitting, valid_at}
+use Rattle.history.proofs.Order.{order, numbers_append, length_up}
+use Rattle.history.proofs.Answers.{Answered, finding, missing, ended, refused, answered, answered_so}
+use Rattle.history.proofs.Reading.{message_as_sent, sent_same, gap_never_sent, empty_when_all_read}
 
 -- ## Histories that go on
 

@@ -8,8 +8,8 @@ use Rattle.frames.specs.Answers.{sizes_bytes}
 use Rattle.desk.specs.Desk.{Turn, silent, says, bad, row_turn, with_task, with_queue, square_of, planned, with_run, start_turn, plan_turn, go_turn}
 use Rattle.logs.specs.Types.{Tick, Plan, Answer, Started, Frame, Desk}
 use Rattle.logs.specs.Said.{code_in}
-use Rattle.logs.specs.Lines.{bad_code}
-use Rattle.logs.specs.Frames.{sending, receiving, turn_of}
+use Rattle.logs.proofs.Lines.{bad_code}
+use Rattle.logs.proofs.Frames.{sending, receiving, turn_of}
 use Rattle.logs.specs.Log.{call_made}
 
 -- ## On a desk that runs

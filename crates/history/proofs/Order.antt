@@ -15,10 +15,10 @@ use Rattle.slots.specs.Slots.{number_in}
 use Rattle.mailbox.specs.Calls.{found, slot_for, receiving_job}
 use Rattle.history.specs.History.{Call, receive, World, History, start, ◌then◌, Begins, world, receive_says, Reading, readings, reads}
 use Rattle.history.specs.History.{read_by, numbers, up_from}
-use Rattle.history.specs.Steps.{CanReceive, next, last_at, read_world, receive_finds, receive_ends, Step, sends, finds, ends, stays, step}
-use Rattle.history.specs.Ground.{div_mono}
-use Rattle.history.specs.Invariant.{Shape}
-use Rattle.history.specs.Holds.{shaped}
+use Rattle.history.proofs.Steps.{CanReceive, next, last_at, read_world, receive_finds, receive_ends, Step, sends, finds, ends, stays, step}
+use Rattle.history.proofs.Ground.{div_mono}
+use Rattle.history.proofs.Invariant.{Shape}
+use Rattle.history.proofs.Holds.{shaped}
 
 -- ## Numbers in a row
 

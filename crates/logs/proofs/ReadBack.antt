@@ -14,9 +14,9 @@ use Rattle.desk.specs.Desk.{line_turn}
 use Rattle.calls.specs.CallLines.{received_bytes}
 use Rattle.logs.specs.Types.{Plan, Answer, Started, Sent, Received, Frame, Desk}
 use Rattle.logs.specs.Said.{frame_in, payload_of, said_in, received_told, start_told, plan_told, bad_told, nothing_told, row_told, frame_told}
-use Rattle.logs.specs.Lines.{stored_back, gap_back, message_back, empty_back, bad_back, nothing_back, refusal_back, sizes_back}
-use Rattle.logs.specs.Frames.{turn_of, line_turn_lem}
-use Rattle.logs.specs.Widths.{SentFits, ReceivedFits, StartedFits, send_fits, receive_fits, start_fits, planning_fits}
+use Rattle.logs.proofs.Lines.{stored_back, gap_back, message_back, empty_back, bad_back, nothing_back, refusal_back, sizes_back}
+use Rattle.logs.proofs.Frames.{turn_of, line_turn_lem}
+use Rattle.logs.proofs.Widths.{SentFits, ReceivedFits, StartedFits, send_fits, receive_fits, start_fits, planning_fits}
 
 pub sent_back : (a : Sent) → SentFits a → said_in (line_of (sent_bytes a)) ≡ sent_says a
 sent_back (Sent.Stored n at) h = stored_back n.0 at.0 h.0 h.1

@@ -21,12 +21,12 @@ use Rattle.slots.specs.Slots.{number_in}
 use Rattle.mailbox.specs.Calls.{found, slot_for, running_job, receiving_job}
 use Rattle.history.specs.History.{send, receive, World, History, start, ◌then◌, Begins, world, after, receive_says, Sends}
 use Rattle.history.specs.History.{accepted_as, SentIn, Tells, stores, tells, AllAccepted}
-use Rattle.history.specs.Steps.{CanSend, CanReceive, number_at, sent_world, next, last_at, read_world, send_stores, receive_finds, after_send}
-use Rattle.history.specs.Steps.{after_finds, found_tells}
-use Rattle.history.specs.Ground.{valid_at}
-use Rattle.history.specs.Invariant.{Shape, held, outdated_late, number_now}
-use Rattle.history.specs.Holds.{shaped}
-use Rattle.history.specs.Short.{Short, periods_fit}
+use Rattle.history.proofs.Steps.{CanSend, CanReceive, number_at, sent_world, next, last_at, read_world, send_stores, receive_finds, after_send}
+use Rattle.history.proofs.Steps.{after_finds, found_tells}
+use Rattle.history.proofs.Ground.{valid_at}
+use Rattle.history.proofs.Invariant.{Shape, held, outdated_late, number_now}
+use Rattle.history.proofs.Holds.{shaped}
+use Rattle.history.proofs.Short.{Short, periods_fit}
 pub use Rattle.history.specs.Smaller.{Lost}
 
 -- ## Jobs and ticks

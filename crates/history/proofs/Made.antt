@@ -10,10 +10,10 @@ use Rattle.planning.specs.AcceptedPlan.{Made}
 use Rattle.mailbox.specs.Calls.{start_lines, start_answer}
 use Rattle.plan.specs.Verdicts.{passed_good}
 use Rattle.history.specs.History.{Begins}
-use Rattle.history.specs.Ground.{Fitting, valid_at}
-use Rattle.history.specs.Short.{Short, too_small}
-use Rattle.history.specs.Resized.{resized, resized_size, resized_sound}
-use Rattle.history.specs.Least.{Lost, loses}
+use Rattle.history.proofs.Ground.{Fitting, valid_at}
+use Rattle.history.proofs.Short.{Short, too_small}
+use Rattle.history.proofs.Resized.{resized, resized_size, resized_sound}
+use Rattle.history.proofs.Least.{Lost, loses}
 
 -- memory of just enough zero bytes
 abbrev pub blank : Plan → List ℕ

@@ -15,7 +15,7 @@ use Rattle.frames.specs.Answers.{each_size, sizes_bytes, stored_bytes, message_b
 use Rattle.frames.specs.Writing.{sizes_length}
 use Rattle.logs.specs.Types.{Refusal}
 use Rattle.logs.specs.Said.{code_in, said_in, bad_told, nothing_told}
-use Rattle.logs.specs.Fields.{field, bytes_half}
+use Rattle.logs.proofs.Fields.{field, bytes_half}
 
 code_back : (code : ℕ) (rest : List ℕ) → code < 256 → code_in (line_of (in_bytes 1 code ++ rest)) ≡ code
 code_back code rest h = field [] rest 0 1 code refl (omega arith)

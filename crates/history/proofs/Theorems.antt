@@ -21,14 +21,14 @@ use Rattle.running.specs.View.{view_of}
 use Rattle.history.specs.History.{Call, receive, World, History, start, ◌then◌, ◌⊑◌, Begins, world, after, send_says, receive_says, history}
 use Rattle.history.specs.History.{go_on}
 use Rattle.history.specs.History.{Sends, SentIn, Tells, read_by, numbers, window_numbers, AllFair, Among, ReadToEnd, AcceptedCall}
-use Rattle.history.specs.Made.{made_fits, loses_one}
+use Rattle.history.proofs.Made.{made_fits, loses_one}
 use Rattle.planning.specs.Planning.{Made}
 use Rattle.history.specs.Smaller.{resized, Lost}
-use Rattle.history.specs.Lists.{go_on_append, goes_on}
-use Rattle.history.specs.Steps
-use Rattle.history.specs.Holds
-use Rattle.history.specs.Reading
-use Rattle.history.specs.Same
+use Rattle.history.proofs.Lists.{go_on_append, goes_on}
+use Rattle.history.proofs.Steps
+use Rattle.history.proofs.Holds
+use Rattle.history.proofs.Reading
+use Rattle.history.proofs.Same
 
 module _ {p : Plan} (made : Made p) {m : List ℕ} (begins : Begins p m) where
   -- ## All at once
