@@ -8,19 +8,19 @@ ghost use Rattle.model.specs.Model.{Queue, receiver_deadline, wanted_for, count,
 ghost use Rattle.calendar.specs.Calendar.{tick, job, capped};
 
 // A moment, counted from tick 0.
-#[derive(Drop)]
+#[derive(Clone, Copy)]
 pub struct Tick(pub u64);
 
 // A task's job, counted from job 0, which is released at tick 0.
-#[derive(Drop)]
+#[derive(Clone, Copy)]
 pub struct Job(pub u64);
 
 // A queue's message, counted from 1. Number 0 is no message's.
-#[derive(Drop)]
+#[derive(Clone, Copy)]
 pub struct Number(pub u64);
 
 // A slot, counted from slot 0.
-#[derive(Drop)]
+#[derive(Clone, Copy)]
 pub struct Slot(pub usize);
 
 // The tick at which a job is released.
@@ -83,7 +83,7 @@ pub fn gcd(a: u64, b: u64) -> u64
 }
 
 // A common multiple that is looked for only up to a limit.
-#[derive(Drop)]
+#[derive(Clone, Copy)]
 pub enum Multiple {
     Within(u64),
     Over,

@@ -3,7 +3,7 @@ ghost use Rattle.common.specs.Words.{◌≡◌};
 ghost use Rattle.plan.specs.Refusals.{number_of};
 
 // In the order of their numbers, 1 to 15.
-#[derive(Drop)]
+#[derive(Clone, Copy)]
 pub enum Rule {
     TaskOrQueueCount,
     PeriodOrDeadline,
@@ -23,14 +23,14 @@ pub enum Rule {
 }
 
 // The row is that of the first bad task or queue for rules 2 to 5, else 0.
-#[derive(Drop)]
+#[derive(Clone, Copy)]
 pub struct Refusal {
     pub rule: Rule,
     pub row: usize,
 }
 
 // What the tests of a call come to.
-#[derive(Drop)]
+#[derive(Clone, Copy)]
 pub enum Verdict {
     Clear,
     Refused(Refusal),

@@ -1,6 +1,6 @@
 -- `calendar::gcd`: Euclid's rule keeps the divisor.
 use Rattle.common.specs.Words.{sym, ◌∙◌, pos_of_ne-zero}
-use Rattle.model.specs.Gcd.{gcd_zero, gcd_step}
+use Rattle.model.proofs.Gcd.{gcd_zero, gcd_step}
 use Rattle.calendar.proofs.+gcd.Goals as goal
 
 pub returns-then-b-eq0 : goal.returns-then-b-eq0

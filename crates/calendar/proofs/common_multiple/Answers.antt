@@ -2,7 +2,7 @@
 use Rattle.common.specs.Words.{ℕ, ◌*◌, ◌/◌, ◌<◌, ◌≤◌, mul_comm, le-div_iff_mul-le, div-lt_iff_lt-mul, arith}
 use Rattle.common.specs.Tests.{tests}
 use Rattle.model.specs.Model.{lcm}
-use Rattle.model.specs.Multiple.{gcd_pos}
+use Rattle.model.proofs.Multiple.{gcd_pos}
 use Rattle.calendar.proofs.common_multiple.Goals as goal
 
 over : (limit a f : ℕ) → 1 ≤ a → limit / a < f → limit < a * f

@@ -2,7 +2,7 @@
 use Rattle.common.specs.Words.{ℕ, ◌+◌, ◌-◌, ◌*◌, ◌/◌, ◌<◌, ◌≤◌, add-mul-div_right, div-eq_of_lt-le, arith, ⊎_elim, ◌≡◌, sym, ◌∙◌}
 use Rattle.common.specs.Tests.{lt_or_le}
 use Rattle.model.specs.Model.{count}
-use Rattle.model.specs.Count.{count_before, count_from}
+use Rattle.model.proofs.Count.{count_before, count_from}
 use Rattle.calendar.proofs.count.Goals as goal
 
 quotient : (P D t : ℕ) → 1 ≤ P → D ≤ P → (t + (P - D)) / P ≡ count P D t
