@@ -1,6 +1,6 @@
 -- `places::first_long`: no queue below the loop's counter is bad.
 use Rattle.common.specs.Words.{◌-◌, ◌≤◌, ◌&&◌, ◌≡◌, sym, rules, not-true, not-false}
-use Rattle.common.specs.Rows.{first_bad, first_bad_none, first_bad_more, first_bad_found}
+use Rattle.common.proofs.Rows.{first_bad, first_bad_none, first_bad_more, first_bad_found}
 use Rattle.plan.specs.Sound.{checked_usable}
 use Rattle.sizing.specs.Cycle.{cycle_short, messages_few}
 use Rattle.places.specs.Places.{long_queue}

@@ -1,7 +1,7 @@
 -- `places::size_of`: no counted queue's hyperperiod is over the limit, so its least size is the greatest need over it.
 use Rattle.common.specs.Words.{ℕ, ◌<◌, ◌≤◌, arith, ◌&&◌, ◌≡◌, sym, ◌∙◌, rules, leb-true, lt-ltb}
 use Rattle.common.specs.Tests.{tests, and_left}
-use Rattle.common.specs.Rows.{first_bad_is}
+use Rattle.common.proofs.Rows.{first_bad_is}
 use Rattle.model.specs.Model.{hyperperiod, slots}
 use Rattle.calendar.specs.Calendar.{capped_within, capped_over}
 use Rattle.plan.specs.Limits.{longest_hyperperiod}

@@ -1,6 +1,6 @@
 -- `planning::make_plan`: each test in document 01's order, and what the tests passed so far say.
 use Rattle.common.specs.Words.{ℕ, ◌≤◌, arith, Bool, ◌≡◌, rules, lt-ltb, le-ltb, not-true, not-false}
-use Rattle.common.specs.Rows.{first_bad, first_bad_is}
+use Rattle.common.proofs.Rows.{first_bad, first_bad_is}
 use Rattle.plan.specs.Facts.{counts_iff}
 use Rattle.planning.specs.Planning.{plan_of}
 use Rattle.planning.specs.TableLaws.{table_checked}

@@ -1,6 +1,6 @@
 -- `rules::first_bad_task`: no row below the loop's counter is bad.
 use Rattle.common.specs.Words.{◌-◌, ◌≤◌, ◌≡◌, sym, rules, not-true, not-false}
-use Rattle.common.specs.Rows.{first_bad_none, first_bad_more, first_bad_found}
+use Rattle.common.proofs.Rows.{first_bad_none, first_bad_more, first_bad_found}
 use Rattle.plan.specs.Rules.{bad_task}
 use Rattle.rules.proofs.first_bad_task.Statement.{statement}
 use Rattle.rules.proofs.first_bad_task.Tie as tie

@@ -1,6 +1,6 @@
 -- `rules::first_sender`: no row below the loop's counter sends.
 use Rattle.common.specs.Words.{◌-◌, ◌≤◌, not, false, ◌≡◌, sym, get_or, rules}
-use Rattle.common.specs.Rows.{first_bad, first_bad_none, first_bad_more, first_bad_found}
+use Rattle.common.proofs.Rows.{first_bad, first_bad_none, first_bad_more, first_bad_found}
 use Rattle.rules.proofs.first_sender.Statement.{statement}
 use Rattle.rules.proofs.first_sender.Tie as tie
 

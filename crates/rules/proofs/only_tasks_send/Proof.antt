@@ -1,6 +1,6 @@
 -- `rules::only_tasks_send`: every row below the loop's counter may send as it does.
 use Rattle.common.specs.Words.{◌-◌, ◌≤◌, true, false, ◌≡◌, sym, get_or, rules, not-true, not-false}
-use Rattle.common.specs.Rows.{every, every_none, every_more, every_fails}
+use Rattle.common.proofs.Rows.{every, every_none, every_more, every_fails}
 use Rattle.plan.specs.Rules.{may_send, only_tasks_send}
 use Rattle.rules.proofs.only_tasks_send.Statement.{statement}
 use Rattle.rules.proofs.only_tasks_send.Tie as tie

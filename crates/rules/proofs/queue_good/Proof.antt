@@ -1,7 +1,7 @@
 -- `rules::queue_good`: the definition's three tests.
 use Rattle.common.specs.Words.{rules}
 use Rattle.common.specs.Tests.{tests}
-use Rattle.common.specs.Rows.{some}
+use Rattle.common.proofs.Rows.{some}
 use Rattle.plan.specs.Rules.{queue_good}
 use Rattle.rules.proofs.queue_good.Statement.{statement}
 use Rattle.rules.proofs.queue_good.Tie as tie

@@ -1,7 +1,7 @@
 -- `soundness::places_good`: the sum of the sizes so far is the place that the next queue has to have. Each size was found to be at
 -- most the limit before it is added.
 use Rattle.common.specs.Words.{◌*◌, ◌-◌, ◌≤◌, arith, true, ◌≡◌, rules, not-true, not-false}
-use Rattle.common.specs.Rows.{every, every_none, every_more, every_fails}
+use Rattle.common.proofs.Rows.{every, every_none, every_more, every_fails}
 use Rattle.common.specs.Totals.{sum, sum_none, sum_next}
 use Rattle.plan.specs.Plan.{size_at, place_at}
 use Rattle.plan.specs.Rules.{place_good, place_good_at, places_good}

@@ -1,6 +1,6 @@
 -- `soundness::sound`: each rule that is broken makes the plan unsound, and where rules 1 to 3 are kept the rest is sizes and places.
 use Rattle.common.specs.Words.{ℕ, ◌<◌, ◌≤◌, Bool, true, false, not, ◌≡◌, sym, ◌∙◌, rules, not-true, not-false}
-use Rattle.common.specs.Rows.{first_bad, every_breaks, every_passes}
+use Rattle.common.proofs.Rows.{first_bad, every_breaks, every_passes}
 use Rattle.plan.specs.Limits.{task_limit, queue_limit}
 use Rattle.plan.specs.Square.{square_of}
 use Rattle.plan.specs.Rules.{counts_good, task_good_at, queue_good_at, bad_task, bad_queue, places_good, checked_plan, sound_plan}

@@ -1,6 +1,6 @@
 -- `sender_in`: the row that is due at the number's deadline and has the number.
 use Rattle.common.specs.Words.{not, ◌≡◌, ◌∙◌, ap, ℕ, ◌≤◌, ltb, rules}
-use Rattle.common.specs.Rows.{first_bad, first_bad_is}
+use Rattle.common.proofs.Rows.{first_bad, first_bad_is}
 use Rattle.model.specs.Model.{Queue, up_to, tick_of, sent_by, sender_of}
 use Rattle.calendar.specs.Calendar.{tick}
 use Rattle.calendar.specs.declared.Tick.{Tick}

@@ -1,7 +1,7 @@
 -- `number::first_number`: job 0's window starts at 1; the job before any other is released within the last tick too.
 use Rattle.common.specs.Words.{rules, ◌-◌, ◌*◌, ◌≤◌, mul-le-mul_right, arith}
 use Rattle.model.specs.Model.{receiver_period, last}
-use Rattle.model.specs.Window.{window_zero}
+use Rattle.model.proofs.Window.{window_zero}
 use Rattle.plan.specs.Limits.{last_tick}
 use Rattle.plan.specs.Plan.{queue_at}
 use Rattle.numbering.specs.Bounds.{up_to_fits}

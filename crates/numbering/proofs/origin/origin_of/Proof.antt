@@ -1,11 +1,11 @@
 -- `origin::origin_of`: the tick and the row that were found are those of the message with the number.
 use Rattle.common.specs.Words.{ℕ, ◌<◌, ◌≤◌, arith, not, ◌≡◌, ap, ◌∙◌, get_or}
-use Rattle.common.specs.Rows.{first_bad}
+use Rattle.common.proofs.Rows.{first_bad}
 use Rattle.common.specs.Tests.{having}
 use Rattle.model.specs.Model.{up_to, followers, due_at, precedes, tick_of, sent_by, sender_of, job_of}
-use Rattle.model.specs.Number.{up_to_zero}
-use Rattle.model.specs.Order.{period_pos}
-use Rattle.model.specs.WayBack.{tick_of_found, tick_there, way_there}
+use Rattle.model.proofs.Number.{up_to_zero}
+use Rattle.model.proofs.Order.{period_pos}
+use Rattle.model.proofs.WayBack.{tick_of_found, tick_there, way_there}
 use Rattle.calendar.specs.Calendar.{tick}
 use Rattle.calendar.specs.declared.Tick.{Tick}
 use Rattle.plan.specs.Limits.{task_limit, last_tick}

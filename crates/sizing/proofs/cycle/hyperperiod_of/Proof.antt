@@ -3,8 +3,8 @@
 use Rattle.common.specs.Words.{ℕ, ◌+◌, ◌-◌, ◌<◌, ◌≤◌, le_refl, arith, true, false, cond, ⊎_elim, ◌≡◌, sym, ◌∙◌, rules}
 use Rattle.common.specs.Tests.{tests, true_or_false}
 use Rattle.model.specs.Model.{Queue, lcm, multiple, hyperperiod}
-use Rattle.model.specs.Multiple.{multiple_none, multiple_on, multiple_off, multiple_pos, multiple_mono}
-use Rattle.model.specs.Order.{period_pos}
+use Rattle.model.proofs.Multiple.{multiple_none, multiple_on, multiple_off, multiple_pos, multiple_mono}
+use Rattle.model.proofs.Order.{period_pos}
 use Rattle.calendar.specs.Calendar.{capped_within, capped_over}
 use Rattle.plan.specs.Limits.{longest_hyperperiod}
 use Rattle.plan.specs.Plan.{queue_at}

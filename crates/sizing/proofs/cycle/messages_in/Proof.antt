@@ -2,7 +2,7 @@
 use Rattle.common.specs.Words.{ℕ, ◌*◌, ◌-◌, ◌≤◌, div-le_self, arith, ◌≡◌, refl, rules}
 use Rattle.common.specs.Totals.{sum, sum_next, only_most}
 use Rattle.model.specs.Model.{Queue, row_messages, messages}
-use Rattle.model.specs.Order.{period_pos}
+use Rattle.model.proofs.Order.{period_pos}
 use Rattle.plan.specs.Limits.{longest_hyperperiod}
 use Rattle.plan.specs.Plan.{queue_at}
 use Rattle.sizing.proofs.cycle.messages_in.Statement.{statement}

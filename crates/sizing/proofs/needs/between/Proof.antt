@@ -1,6 +1,6 @@
 -- `sizing::needs::between`: a count does not fall as ticks go on.
 use Rattle.common.specs.Words.{arith, rules}
-use Rattle.model.specs.Count.{count_mono}
+use Rattle.model.proofs.Count.{count_mono}
 use Rattle.sizing.proofs.rules.between.Statement.{statement}
 use Rattle.sizing.proofs.rules.between.Tie as tie
 

@@ -2,8 +2,8 @@
 use Rattle.common.specs.Words.{ℕ, ◌-◌, ◌<◌, ◌≤◌, arith, ◌≡◌, refl, rules, get_or}
 use Rattle.common.specs.Totals.{only, most, most_next}
 use Rattle.model.specs.Model.{row_slots, slots_over}
-use Rattle.model.specs.Order.{period_pos}
-use Rattle.model.specs.Outdating.{wanted_fits}
+use Rattle.model.proofs.Order.{period_pos}
+use Rattle.model.proofs.Outdating.{wanted_fits}
 use Rattle.plan.specs.Limits.{task_limit}
 use Rattle.plan.specs.Plan.{queue_at, Usable}
 use Rattle.plan.specs.declared.Plan.{Plan}
