@@ -8,7 +8,7 @@ ghost use Rattle.keys.specs.Keys.{spelled, meant, same_meaning, name_byte, prime
 
 use words::{byte_at, wide};
 
-#[derive(Drop)]
+#[derive(Clone, Copy)]
 pub struct Key {
     pub sort: usize,
     pub within: usize,
@@ -18,7 +18,7 @@ pub struct Key {
 }
 
 // A hash that grows with each number: two lanes.
-#[derive(Drop)]
+#[derive(Clone, Copy)]
 struct Lanes {
     low: usize,
     high: usize,

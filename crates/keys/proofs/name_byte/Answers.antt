@@ -4,8 +4,7 @@ use Rattle.common.specs.Tests.{tests}
 use Rattle.common.specs.Rows.{every, every_at}
 use Rattle.tokens.specs.Tokens.{sort_of}
 use Rattle.keys.specs.Keys.{name_byte}
-use Rattle.keys.proofs.name_byte.Statement.{statement}
-use Rattle.keys.proofs.name_byte.Tie as tie
+use Rattle.keys.proofs.name_byte.Goals as goal
 
 abbrev tested : ℕ → ℕ
 tested b = cond (ltb b 0x30) 0 (cond (leb b 0x39) b (cond (eqb b 0x5f) b (cond (ltb b 0x61) 0 (cond (leb b 0x7a) b 0))))
@@ -17,12 +16,20 @@ all_agree = refl
 agree : (b : ℕ) → b < 256 → tested b ≡ name_byte b
 agree b l = eqb-true _ _ (every_at (λ b. eqb (tested b) (name_byte b)) 256 b all_agree l)
 
-pub name_byte_spec : {M : Type 1} → statement M
-name_byte_spec =
-    tie.close
-    (tie.spec (λ c. search tests ∙ agree c.before.args.b (search rules))
-    (λ c. search tests ∙ agree c.before.before.args.b (search rules))
-    (λ c. search tests ∙ agree c.before.before.before.args.b (search rules))
-    (λ c. search tests ∙ agree c.before.before.before.before.args.b (search rules))
-    (λ c. search tests ∙ agree c.before.before.before.before.before.args.b (search rules))
-    (λ c. search tests ∙ agree c.before.before.before.before.before.args.b (search rules)))
+pub returns-then-b-lt48 : goal.returns-then-b-lt48
+returns-then-b-lt48 c = search tests ∙ agree c.args.b (search rules)
+
+pub returns-then-b-le57 : goal.returns-then-b-le57
+returns-then-b-le57 c = search tests ∙ agree c.args.b (search rules)
+
+pub returns-then-b-eq95 : goal.returns-then-b-eq95
+returns-then-b-eq95 c = search tests ∙ agree c.args.b (search rules)
+
+pub returns-then-b-lt97 : goal.returns-then-b-lt97
+returns-then-b-lt97 c = search tests ∙ agree c.args.b (search rules)
+
+pub returns-then-b-le122 : goal.returns-then-b-le122
+returns-then-b-le122 c = search tests ∙ agree c.args.b (search rules)
+
+pub returns : goal.returns
+returns c = search tests ∙ agree c.args.b (search rules)
