@@ -1,0 +1,10 @@
+-- `values::block`.
+use Rattle.common.specs.Words.{rules, ◌≡◌, refl, sym, ◌∙◌}
+use Rattle.steps.specs.Lifted.{lift}
+use Rattle.values.specs.Laws.{block_then}
+use Rattle.values.proofs.block.Goals as goal
+
+pub returns : goal.returns
+returns c =
+    let k = c in let a = k.args in
+    rw (c.symbol-2.ensures, k.associations.ensures, k.symbol.ensures) (block_then (lift a.text.now a.went))

@@ -1,0 +1,32 @@
+-- `values::scoped`: what is left to pass ends where the whole does.
+use Rattle.common.specs.Words.{rules, ◌≡◌, refl, sym, ◌∙◌, arith}
+use Rattle.words.specs.Kinds.{SCOPE}
+use Rattle.steps.specs.Steps.{◌⟫◌, is, the, name, many}
+use Rattle.steps.specs.Lifted.{lift, size}
+use Rattle.steps.specs.Laws.{then_then, is_on, is_off, advances, many_on, many_off, many_less}
+use Rattle.values.specs.Values.{inner}
+use Rattle.values.specs.Laws.{inner_moves, scoped_then}
+use Rattle.values.proofs.scoped.Goals as goal
+
+pub loop-w-init : goal.loop-w-init
+loop-w-init c = refl
+
+pub loop-w-smaller : goal.loop-w-smaller
+loop-w-smaller c =
+    let k = c in let s = lift k.args.text.now k.loop-w.w in
+    rw (c.name-w-in-loop-w.ensures, c.symbol.ensures, then_then s (the SCOPE) name)
+    (many_less (is SCOPE) inner (advances (is SCOPE) inner_moves) s
+    (is_on SCOPE s (λ e. omega arith) (sym k.next.ensures ∙ k.loop-w-test.true)))
+
+pub loop-w-preserved : goal.loop-w-preserved
+loop-w-preserved c =
+    let k = c in let s = lift k.args.text.now k.loop-w.w in
+    rw (c.name-w-in-loop-w.ensures, c.symbol.ensures, then_then s (the SCOPE) name)
+    (many_on (is SCOPE) inner (advances (is SCOPE) inner_moves) s
+    (is_on SCOPE s (λ e. omega arith) (sym k.next.ensures ∙ k.loop-w-test.true)) ∙ k.loop-w.invariant)
+
+pub returns : goal.returns
+returns c =
+    let l = c in let a = l.args in let s = lift a.text.now l.loop-w.w in
+    many_off (is SCOPE) inner (advances (is SCOPE) inner_moves) s (is_off SCOPE s (λ e. c.loop-w-test.false (c.next.ensures ∙ e)))
+    ∙ l.loop-w.invariant ∙ rw l.name-w.ensures (scoped_then (lift a.text.now a.went))
