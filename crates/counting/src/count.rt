@@ -29,7 +29,7 @@ pub fn up_to<'a>(
 }
 
 // How many of a task's jobs have their deadline at or before a tick, and how many ticks after it the next one has.
-#[derive(Drop)]
+#[derive(Clone, Copy)]
 struct Passed {
     count: u64,
     next: u64,
@@ -81,7 +81,7 @@ fn deadlines_in(period: u64, next: u64, ticks: u64) -> u64
 }
 
 // The counts up to a tick `low` and up to a tick `high`.
-#[derive(Drop)]
+#[derive(Clone, Copy)]
 pub struct Counts {
     pub low: u64,
     pub high: u64,

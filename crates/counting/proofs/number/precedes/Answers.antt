@@ -1,14 +1,13 @@
 -- `number::precedes`: the model's rule for equal deadlines, by its two laws.
+-- one more decides between equal numbers,
 use Rattle.common.specs.Words.{ℕ, ℕ_discrete, ◌+◌, ◌<◌, ◌≤◌, arith, Bool, true, false, ⊎_elim, ◌≡◌, sym, ◌∙◌}
-use Rattle.common.specs.Words.{ltb, lt-ltb, le-ltb, rules}
+use Rattle.common.specs.Words.{ltb, lt-ltb, le-ltb}
 use Rattle.common.specs.Tests.{lt_or_le}
 use Rattle.common.specs.Totals.{only, only_most}
 use Rattle.model.specs.Model.{Queue, precedes}
-use Rattle.model.specs.Ties.{prec_equal, prec_higher}
-use Rattle.counting.proofs.number.precedes.Statement.{statement}
-use Rattle.counting.proofs.number.precedes.Tie as tie
+use Rattle.model.proofs.Ties.{prec_equal, prec_higher}
+use Rattle.counting.proofs.number.precedes.Goals as goal
 
--- one more decides between equal numbers,
 equal : (a b : ℕ) (first : Bool) → a ≡ b → ltb b (a + only first 1) ≡ first
 equal a b true e = lt-ltb b (a + 1) (omega (arith, e))
 equal a b false e = le-ltb b (a + 0) (omega (arith, e))
@@ -29,13 +28,10 @@ by_lead q i j =
       | no d ↦ apart (q.priority i) (q.priority j) (ltb i j) d ∙ sym (prec_higher q i j d)
     ]
 
-add-result : tie.Need-overflow-add-result
-add-result c =
-    let m = only_most (ltb c.before.args.task c.before.args.row) 1 1 (λ _. omega arith) in
-    omega (arith, m, c.one-if.ensures)
+pub overflow_add-result : goal.overflow_add-result
+overflow_add-result c =
+    let m = only_most (ltb c.args.task c.args.row) 1 1 (λ _. omega arith) in
+    omega (arith, m, c.one_if.ensures)
 
-returns : tie.Need-returns
-returns c q own other = rw (c.one-if.ensures, ← own, ← other) (by_lead q _ _)
-
-pub precedes_spec : {M : Type 1} → statement M
-precedes_spec = tie.close (tie.spec (λ c κs. search rules) add-result returns)
+pub returns : goal.returns
+returns c q own other = rw (c.one_if.ensures, ← own, ← other) (by_lead q _ _)

@@ -1,0 +1,26 @@
+-- `count::deadlines_in`: two deadlines at most, or the count as it is defined.
+use Rattle.common.specs.Words.{◌-◌, div-le_self, arith, sym}
+use Rattle.model.proofs.Count.{count_from}
+use Rattle.counting.specs.Passed.{count_two}
+use Rattle.counting.proofs.count.deadlines_in.Goals as goal
+
+pub overflow_add-result-else-second-period : goal.overflow_add-result-else-second-period
+overflow_add-result-else-second-period c =
+    let a = c.args in
+    omega (arith, div-le_self (a.ticks - a.next) a.period)
+
+pub returns-then-second-period : goal.returns-then-second-period
+returns-then-second-period c =
+    let m = c in
+    let t = m in
+    let s = t in
+    let f = s in
+    let k = f in
+    let few = rw (s.beyond-second.ensures, f.beyond-first.ensures) at t.if-second-period.true in
+    rw (c.at_most_one-then-second-period.ensures, m.at_most_one.ensures, s.beyond-second.ensures, f.beyond-first.ensures)
+    (sym (count_two k.args.period k.args.next k.args.ticks k.requires.1 few))
+
+pub returns-else-second-period : goal.returns-else-second-period
+returns-else-second-period c =
+    let a = c.args in
+    omega (arith, count_from a.period a.next a.ticks (omega arith))

@@ -1,0 +1,36 @@
+-- `sender::sent_by`: the two tests of the definition.
+use Rattle.common.specs.Words.{ℕ, ◌+◌, ◌*◌, ◌≤◌, arith, true, false, get_or, ◌≡◌, sym, ◌∙◌}
+use Rattle.model.specs.Model.{has_deadline, due_at}
+use Rattle.common.specs.Tests.{having, and_right}
+use Rattle.model.proofs.Count.{has_job}
+use Rattle.plan.specs.Limits.{task_limit}
+use Rattle.counting.specs.Bounds.{row_positive}
+use Rattle.counting.proofs.sender.sent_by.Goals as goal
+
+-- no message is due at tick 0
+after_start : (P D t : ℕ) → 1 ≤ P → 1 ≤ D → has_deadline P D t ≡ true → 1 ≤ t
+after_start P D t pos dpos h = having (has_job P D t pos h) (λ j. omega (arith, j.1))
+
+pub due-requires : goal.due-requires
+due-requires c =
+    let k = c in
+    row_positive k.requires.0 k.args.row k.requires.1
+
+pub number_due-number-requires : goal.number_due-number-requires
+number_due-number-requires c =
+    let s = c in
+    let p = row_positive s.requires.0 s.args.row s.requires.1 in
+    let on = get_or s.args.sends.now (s.args.queue * task_limit + s.args.row) false in
+    let d = and_right on _ (sym c.due.ensures ∙ c.if-due.true) in
+    (s.requires.0, after_start _ _ s.args.at.0 p.0 p.1 d, s.requires.2, s.requires.1)
+
+pub returns-then-due : goal.returns-then-due
+unfolding due_at
+returns-then-due c =
+    let d = c in
+    let t = d in
+    rw (d.number_due-number.ensures, sym t.due.ensures ∙ t.if-due.true)
+
+pub returns-else-due : goal.returns-else-due
+unfolding due_at
+returns-else-due c = rw (sym c.due.ensures ∙ c.if-due.false)
