@@ -17,10 +17,11 @@ sys.dont_write_bytecode = True
 from sources import base, cited_files, public_functions, read, rows, section, without_comment
 
 LIST = '## What a reader has to believe'
+KITS = {'std', 'core'}
 ABOVE = {'priorities', 'logs', 'blocks', 'mulchpenny'}  # what stands on the base, and adds no call to it
 WORDS = set('λ → × ¬ ⊥ let in rw at omega search cc record where Type unfolding absurd elim = : | ↦ _'.split())
 USE = re.compile(r'^(unfoldable |pub |ghost )*use (\S+?)(?:\.\{(.*)\}| as (\w+))?;?$')
-OURS = re.compile(r'Rattle·(\w+?)(?:·specs)?\.specs\.(\w+)$')
+OURS = re.compile(r'Rattle\.(\w+)\.(specs|proofs)\.(\w+)$')
 SIGNATURE = re.compile(r'((?:unfoldable |abbrev |pub )*)(record |data )?(\S+)(?: [({].*)? :(?: |$)')
 
 
@@ -95,8 +96,8 @@ def bound(text):
 
 
 def mentioned(text):
-    """The words of a text that may be names of something else. A field that is asked for (` .name`) or given (`name = `) is none."""
-    plain = re.sub(r'\S+ = ', ' ', re.sub(r'(?<=\s)\.\w[\w-]*', ' ', text))
+    """The words of a text that may be names of something else. A field that is asked for (`).name`) or given (`name = `) is none."""
+    plain = re.sub(r'\S+ = ', ' ', re.sub(r'(?<=[)\s])\.\w[\w-]*', ' ', text))
     words = {word.rstrip('.') for word in re.split(r'[\s(){},;⌜⌝]+', plain)}
     return words - WORDS - bound(text)
 
@@ -104,7 +105,7 @@ def mentioned(text):
 def file_of(module):
     """The file that a module of ours is; nothing for the kit's modules and for the types that the code declares."""
     ours = OURS.match(module)
-    return f'crates/{ours.group(1)}/specs/{ours.group(2)}.antt' if ours else None
+    return f'crates/{ours.group(1)}/{ours.group(2)}/{ours.group(3)}.antt' if ours and ours.group(1) not in KITS else None
 
 
 class Search:
@@ -129,7 +130,7 @@ class Search:
             if file_of(module):
                 self.name(file_of(module), last)
             for name in [*page.declared, *page.owner, *page.brought]:
-                if head == name or head and '_' in name and head in name.split('_'):
+                if head == name or head and '◌' in name and head in name.split('◌'):
                     self.name(page.path, name)
 
     def name(self, path, name):
@@ -142,7 +143,7 @@ class Search:
             self.declaration(page, page.declared[name])
         elif name in page.brought:
             module, original = page.brought[name]
-            if name in page.passed and (original != name or '·' not in module):
+            if name in page.passed and (original != name or file_of(module) is None):
                 self.definitions.setdefault(path, set()).add(name)  # it says what the name means: the kit's word, or another one of ours
             self.name(file_of(module), original)
         else:

@@ -64,11 +64,11 @@ def section(page, heading):
 
 
 def cited_files(cell):
-    """The files that a cell of docs/PROMISES.md names: "model/specs/Count.antt, Order.antt"."""
-    crate = ''
+    """The files that a cell of docs/PROMISES.md names: "model/proofs/Count.antt, Order.antt"."""
+    folder = ''
     for file in re.findall(r'[\w/]+\.antt', cell):
-        crate = file.split('/')[0] if '/' in file else crate
-        yield f'crates/{crate}/specs/{os.path.basename(file)}'
+        folder = os.path.dirname(file) or folder
+        yield f'crates/{folder}/{os.path.basename(file)}'
 
 
 def base():

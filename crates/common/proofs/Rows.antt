@@ -1,5 +1,6 @@
 -- Laws of tests over the rows below n: that every row passes, and which row is the first that does not.
-use Rattle.common.specs.Words.{ℕ, zero, suc, ◌+◌, ◌<◌, ◌≤◌, arith, add-one, Bool, true, false, cond, not, ◌⊎◌, inl, inr, ◌↔◌}
+use Rattle.common.specs.Words.{ℕ, zero, suc, ◌+◌, ◌<◌, ◌≤◌, arith, add-one, Bool, true, false, cond, not, ◌⊎◌, inl, inr}
+use Rattle.common.specs.Words.{◌↔◌}
 use Rattle.common.specs.Words.{⊎_elim}
 use Rattle.common.specs.Words.{◌≡◌, refl, sym, subst, ◌∙◌, ltb, lt-ltb, le-ltb, ltb-true, not-true, not-false}
 use Rattle.common.specs.Tests.{lt_or_le, true_or_false, having, clash, and_left, and_right}

@@ -11,6 +11,7 @@ too_long_lem d m line h = rw (lt-leb (length line) longest_line h)
 
 pub line_taken : (d : Desk) (m line : List ℕ) (n : ℕ) → longest_line < n → line_turn d m (take n line) ≡ line_turn d m line
 line_taken d m line n h =
-    ⊎_elim (λ (g : longest_line < length line). too_long_lem d m (take n line) (omega (arith, length-take n line)) ∙ sym (too_long_lem d m line g))
+    ⊎_elim (λ (g : longest_line < length line). too_long_lem d m (take n line) (omega (arith, length-take n line))
+        ∙ sym (too_long_lem d m line g))
     (λ (g : length line ≤ longest_line). let e : take n line ≡ line = take_all n line (omega arith) in rw e)
     (lt_or_le longest_line (length line))

@@ -122,7 +122,8 @@ module _ (s : State) where
       does_then s (implementation PROCESS a_process p) (put (λ qs. process_row p))
       ∙ does_at s (λ ps ts. implementation PROCESS a_process p ps ts ⨟ put (λ qs. process_row p))
       (λ us ps ts. implementation PROCESS a_process (head us).start ps ts ⨟ put (λ qs. process_row (head us).start))
-      (λ ts w. ap {B = Rule} (λ (q : ℕ) (ps : List ℕ) (us : List Token). implementation PROCESS a_process q ps us ⨟ put (λ qs. process_row q))
+      (λ ts w. ap {B = Rule} (λ (q : ℕ) (ps : List ℕ) (us : List Token). implementation PROCESS a_process q ps us ⨟ put
+          (λ qs. process_row q))
       (x ∙ ap (λ (u : Step). (first u).start) w))
 
 -- ## How far they go

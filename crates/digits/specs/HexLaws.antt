@@ -1,7 +1,9 @@
 -- Laws of digits: a line of whole pairs, the buffer after decoding, and how many digits bytes take.
 use Rattle.std.specs.Prelude.{bit_or}
-use Rattle.common.specs.Words.{ℕ, zero, suc, ◌+◌, ◌*◌, ◌/◌, ◌%◌, ◌^◌, ◌<◌, ◌≤◌, arith, add-one, Bool, true, false, cond, ◌&&◌}
-use Rattle.common.specs.Words.{List, [], ◌∷◌, ◌++◌, inl, inr, ◌⊎◌, ◌≡◌, refl, sym, ap, subst, ◌∙◌, leb, ltb, length, get_or, take, set, sets}
+use Rattle.common.specs.Words.{ℕ, zero, suc, ◌+◌, ◌*◌, ◌/◌, ◌%◌, ◌^◌, ◌<◌, ◌≤◌, arith, add-one, Bool, true, false}
+use Rattle.common.specs.Words.{cond, ◌&&◌}
+use Rattle.common.specs.Words.{List, [], ◌∷◌, ◌++◌, inl, inr, ◌⊎◌, ◌≡◌, refl, sym, ap, subst, ◌∙◌, leb, ltb, length}
+use Rattle.common.specs.Words.{get_or, take, set, sets}
 use Rattle.common.specs.Words.{length-sets, length-take-le, take-suc, lt-ltb, le-ltb, le-leb, lt-leb, eq-eqb, ne_eqb}
 use Rattle.common.specs.Words.{ltb-true, leb-true, eqb-true}
 use Rattle.std.proofs.lemmas.Nat.{or_lt, and_le_l, and_le_r}
@@ -104,7 +106,8 @@ digits_more bytes l at k h =
 below_both : (a b : ℕ) → ltb (bit_or a b) no_digit ≡ (ltb a no_digit && ltb b no_digit)
 below_both a b = go (lt_or_le a no_digit) (lt_or_le b no_digit)
   where
-    go : (a < no_digit) ⊎ (no_digit ≤ a) → (b < no_digit) ⊎ (no_digit ≤ b) → ltb (bit_or a b) no_digit ≡ (ltb a no_digit && ltb b no_digit)
+    go : (a < no_digit) ⊎ (no_digit ≤ a) → (b < no_digit) ⊎ (no_digit ≤ b) →
+        ltb (bit_or a b) no_digit ≡ (ltb a no_digit && ltb b no_digit)
     go (inl h) (inl g) = rw (lt-ltb a no_digit h, lt-ltb b no_digit g, lt-ltb (bit_or a b) no_digit (or_lt 4 a b h g))
     go (inl h) (inr g) =
         rw (lt-ltb a no_digit h, le-ltb b no_digit g, le-ltb (bit_or a b) no_digit (omega (arith, or_add_and a b, and_le_l a b)))
@@ -209,7 +212,8 @@ pub record Holds (line buffer : List ℕ) (n : ℕ) : Type 0 where
   pub within : n ≤ most_bytes
   pub bytes_are : take n (decoded_into line buffer) ≡ bytes_in line
 
-pub decoded_holds : (line buffer : List ℕ) (n : ℕ) → most_bytes ≤ length buffer → decoded_of line ≡ Decoded.Bytes n → Holds line buffer n
+pub decoded_holds : (line buffer : List ℕ) (n : ℕ) → most_bytes ≤ length buffer → decoded_of line ≡ Decoded.Bytes n →
+    Holds line buffer n
 unfolding decoded_of
 decoded_holds line buffer n room e = go (is_line line) refl e
   where

@@ -4,7 +4,8 @@ use Rattle.common.specs.Words.{ℕ, arith, true, false, List, [], ◌∷◌, inl
 use Rattle.common.specs.Totals.{sum, most}
 use Rattle.common.proofs.Rows.{every, some, first_bad}
 use Rattle.calendar.specs.Calendar.{message, slot}
-use Rattle.model.specs.Model.{count, has_deadline, precedes, up_to, due_at, followers, number, wanted_for, horizon, outdated, euclid, gcd, lcm, multiple}
+use Rattle.model.specs.Model.{count, has_deadline, precedes, up_to, due_at, followers, number, wanted_for, horizon, outdated, euclid, gcd, lcm}
+use Rattle.model.specs.Model.{multiple}
 use Rattle.model.specs.Model.{hyperperiod, need, row_slots, slots_over, slots, last, sender_of}
 use Rattle.model.proofs.WayBack.{way_back}
 use Rattle.plan.specs.Rules.{one_to, counts_good, task_good, only_tasks_send, queue_good, place_good, places_good, checked_plan, sound_plan}

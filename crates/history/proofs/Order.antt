@@ -1,8 +1,10 @@
 -- What each receiving job has read after every history: the first numbers of its window, one after the other.
 -- It leans on the view of one call and on the laws of windows; fit sizes play no part.
-use Rattle.common.specs.Words.{ℕ, zero, suc, ◌+◌, ◌-◌, ◌/◌, ◌≤◌, ◌<◌, max, arith, le_refl, zero-add, add-zero, suc-add, add-suc, ℕ_discrete}
+use Rattle.common.specs.Words.{ℕ, zero, suc, ◌+◌, ◌-◌, ◌/◌, ◌≤◌, ◌<◌, max, arith, le_refl, zero-add, add-zero, suc-add}
+use Rattle.common.specs.Words.{add-suc, ℕ_discrete}
 use Rattle.common.specs.Words.{Bool}
-use Rattle.common.specs.Words.{true, false, cond, ◌&&◌, List, [], ◌∷◌, ◌++◌, append-nil, ◌≡◌, refl, sym, ap, subst, ◌∙◌, eqb, length, get_or}
+use Rattle.common.specs.Words.{true, false, cond, ◌&&◌, List, [], ◌∷◌, ◌++◌, append-nil, ◌≡◌, refl, sym, ap, subst, ◌∙◌}
+use Rattle.common.specs.Words.{eqb, length, get_or}
 use Rattle.common.specs.Words.{length-append, get_or-replicate, get_or-set_same, get_or-set_other, eq-eqb, ne_eqb}
 use Rattle.calendar.specs.Calendar.{message, slot}
 use Rattle.model.specs.Model.{Valid, receiver_period, first, last, sender_of}
@@ -148,7 +150,8 @@ module _ (p : Plan) (q : ℕ) (v : Valid (queue_at p q)) where
       far k (yes e) = rw (length_snoc (R k) n) (omega (arith, here k e, l, ap (last (queue_at p q)) e))
       far k (no d) = o.no_further k
 
-      on : (k : ℕ) (d : Dec (job ≡ k)) → job ≤ k → max (n + 1) (first (queue_at p q) k) ≡ first (queue_at p q) k + length (add_if d n (R k))
+      on : (k : ℕ) (d : Dec (job ≡ k)) → job ≤ k →
+          max (n + 1) (first (queue_at p q) k) ≡ first (queue_at p q) k + length (add_if d n (R k))
       on k (yes e) b = rw (length_snoc (R k) n) (omega (arith, here k e))
       on k (no d) b =
           let later : job < k = omega arith in

@@ -1,5 +1,6 @@
 -- What a receive's answer says of the calls before it and after it. `Theorems` states what comes of it.
-use Rattle.common.specs.Words.{ℕ, suc, ◌+◌, ◌-◌, ◌*◌, ◌/◌, ◌≤◌, ◌<◌, arith, le_refl, div-mul-le_self, ℕ_discrete, List, ◌++◌, inl, inr}
+use Rattle.common.specs.Words.{ℕ, suc, ◌+◌, ◌-◌, ◌*◌, ◌/◌, ◌≤◌, ◌<◌, arith, le_refl, div-mul-le_self, ℕ_discrete, List}
+use Rattle.common.specs.Words.{◌++◌, inl, inr}
 use Rattle.common.specs.Words.{◌≡◌, refl}
 use Rattle.common.specs.Words.{sym, ap, subst, ◌∙◌, length, get_or, set, get_or-set_same, get_or-set_other}
 use Rattle.std.proofs.Math.Arith.{lt_of_le-ne}
@@ -15,7 +16,8 @@ use Rattle.plan.specs.Plan.{queue_at}
 use Rattle.plan.specs.Sound.{Sound}
 use Rattle.mailbox.specs.Calls.{running_job, receiving_job}
 use Rattle.running.specs.View.{view_of}
-use Rattle.history.specs.History.{Call, send, receive, World, send_says, History, start, ◌then◌, ◌⊑◌, same, more, Begins, world, receive_says}
+use Rattle.history.specs.History.{Call, send, receive, World, send_says, History, start, ◌then◌, ◌⊑◌, same, more, Begins, world}
+use Rattle.history.specs.History.{receive_says}
 use Rattle.history.specs.History.{Sends, accepted_as, SentIn, Tells, of_gap, AcceptedCall, tells, empty, read_by, numbers, up_from, window_numbers}
 use Rattle.history.proofs.Steps.{CanReceive, next, after_finds, receive_moves, Step, sends, finds, ends, stays, step}
 use Rattle.history.proofs.Ground.{valid_at, Fitting, slot_waits, div_mono}
@@ -150,11 +152,13 @@ module _ {p : Plan} {m : List ℕ} (sound : Sound p) (begins : Begins p m) where
           )
 
   pub gap_names_sender : (H : History) (q t n row : ℕ) → receive_says p (world p m H) q t ≡ Received.Gap (message n) row →
-      (row ≡ sender_of (queue_at p q) last_tick n) × Sender (queue_at p q) row × (number (queue_at p q) row (job_of (queue_at p q) last_tick n) ≡ n)
+      (row ≡ sender_of (queue_at p q) last_tick n) × Sender (queue_at p q) row
+          × (number (queue_at p q) row (job_of (queue_at p q) last_tick n) ≡ n)
   gap_names_sender H q t n row e = go (answered_so p (world p m H) q t (Received.Gap (message n) row) e)
     where
       go : {n row : ℕ} → Answered p (world p m H) q t (Received.Gap (message n) row) →
-          (row ≡ sender_of (queue_at p q) last_tick n) × Sender (queue_at p q) row × (number (queue_at p q) row (job_of (queue_at p q) last_tick n) ≡ n)
+          (row ≡ sender_of (queue_at p q) last_tick n) × Sender (queue_at p q) row
+              × (number (queue_at p q) row (job_of (queue_at p q) last_tick n) ≡ n)
       go (missing h l d) =
           having (told_sender (world p m H) q t (next p (world p m H) q t) (told (missing h l d) of_gap)) (λ y. (refl, y.0, y.1))
 

@@ -1,6 +1,7 @@
 -- One call, by what it comes to. Every later proof goes by this list of cases and never looks at the tests again.
 -- It leans on Verdicts: a call is accepted exactly when its lines pass.
-use Rattle.common.specs.Words.{ℕ, ◌≤◌, ◌<◌, Bool, true, false, cond, ◌&&◌, true≢false, List, [], ◌⊎◌, inl, inr, ⊎_elim, ◌≡◌, refl}
+use Rattle.common.specs.Words.{ℕ, ◌≤◌, ◌<◌, Bool, true, false, cond, ◌&&◌, true≢false, List, [], ◌⊎◌, inl, inr, ⊎_elim}
+use Rattle.common.specs.Words.{◌≡◌, refl}
 use Rattle.common.specs.Words.{sym, ap, subst, ◌∙◌, eqb, lt-ltb, le-ltb}
 use Rattle.common.specs.Tests.{lt_or_le}
 use Rattle.model.specs.Model.{last, sender_of}
@@ -109,7 +110,8 @@ module _ (p : Plan) (w : World) where
   leaves {s} {m} {s'} {m'} e d = ap (λ (x : State). record { state = x; memory = m }) e
       ∙ ap (λ (y : List ℕ). record { state = s'; memory = y }) d
 
-  pub after_send : (q i t : ℕ) (payload : List ℕ) → CanSend p w q i t payload → after p w (send q i t payload) ≡ sent_world p w q i t payload
+  pub after_send : (q i t : ℕ) (payload : List ℕ) → CanSend p w q i t payload →
+      after p w (send q i t payload) ≡ sent_world p w q i t payload
   unfolding after running.send_memory
   after_send q i t payload h =
       let lines : List Line = send_lines w.state p w.memory q i t payload in

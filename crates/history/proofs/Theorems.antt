@@ -61,7 +61,8 @@ module _ {p : Plan} (made : Made p) {m : List ℕ} (begins : Begins p m) where
   message_as_sent = Reading.message_as_sent (made_fits made) begins
 
   -- Message n is its job's: whoever's send is accepted as message n is n's sender, and sends in the job that has the number n.
-  pub sent_by_its_job : (H : History) (q i t n : ℕ) (b : List ℕ) (s : Slot) → send_says p (world p m H) q i t b ≡ Sent.Stored (message n) s →
+  pub sent_by_its_job : (H : History) (q i t n : ℕ) (b : List ℕ) (s : Slot) →
+      send_says p (world p m H) q i t b ≡ Sent.Stored (message n) s →
       Sender (queue_at p q) i × (number (queue_at p q) i (running_job (queue_at p q) i t) ≡ n)
       × (release_of (queue_at p q) i (running_job (queue_at p q) i t) ≤ t) × (t < deadline_of (queue_at p q) i (running_job (queue_at p q) i t))
   sent_by_its_job H = Reading.sent_by_its_job p (world p m H)
@@ -83,7 +84,8 @@ module _ {p : Plan} (made : Made p) {m : List ℕ} (begins : Begins p m) where
 
   -- The row that it names is n's sender: the one that the way back answers, whose job has the number n.
   pub gap_names_sender : (H : History) (q t n row : ℕ) → receive_says p (world p m H) q t ≡ Received.Gap (message n) row →
-      (row ≡ sender_of (queue_at p q) last_tick n) × Sender (queue_at p q) row × (number (queue_at p q) row (job_of (queue_at p q) last_tick n) ≡ n)
+      (row ≡ sender_of (queue_at p q) last_tick n) × Sender (queue_at p q) row
+          × (number (queue_at p q) row (job_of (queue_at p q) last_tick n) ≡ n)
   gap_names_sender = Reading.gap_names_sender (made_fits made).sound begins
 
   -- The same of a history that is given as a list of calls.

@@ -92,7 +92,8 @@ no_table_by f t h = go (eqb f.number 0) h
     go true h = absurd (h refl)
     go false h = refl
 
-no_table_lem : (room : Bool) (text : List ℕ) → ((answer room text).answer ≡ ReaderAnswer.Sound → ⊥) → (answer room text).table ≡ no_table
+no_table_lem : (room : Bool) (text : List ℕ) → ((answer room text).answer ≡ ReaderAnswer.Sound → ⊥) →
+    (answer room text).table ≡ no_table
 unfolding answer read_of answer_plain
 no_table_lem true text h = no_table_by _ _ h
 no_table_lem false text h = refl

@@ -98,7 +98,8 @@ indexed_none p role rows tree l =
       few = omega arith;
       room = simp length-set l;
       sound =
-          sound_none (set (set tree 0 0) 1 0) (get_or-set_other (set tree 0 0) 1 0 0 0 (λ e. omega arith) ∙ get_or-set_same tree 0 0 0 (omega arith))
+          sound_none (set (set tree 0 0) 1 0) (get_or-set_other (set tree 0 0) 1 0 0 0 (λ e. omega arith)
+              ∙ get_or-set_same tree 0 0 0 (omega arith))
           (get_or-set_same (set tree 0 0) 1 0 0 (simp length-set (omega arith)));
     }
 

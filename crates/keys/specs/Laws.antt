@@ -73,7 +73,8 @@ module _ (p : List ℕ) (i j : ℕ) where
       same (spelled p (i + 1)) (spelled p (j + 1)) ≡ same (spelled p i) (spelled p j)
   unfolding same
   same_onward n e =
-      rw (spelled_is p i, spelled_is p j, ← e, ne_eqb (name_byte (get_or p i 0)) 0 n, eq-eqb (name_byte (get_or p i 0)) (name_byte (get_or p i 0)) refl)
+      rw (spelled_is p i, spelled_is p j, ← e, ne_eqb (name_byte (get_or p i 0)) 0 n,
+          eq-eqb (name_byte (get_or p i 0)) (name_byte (get_or p i 0)) refl)
 
 -- ## Keys that are the same
 

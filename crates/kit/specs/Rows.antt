@@ -1,7 +1,9 @@
 -- Promise 4: rows are the threads in text order, each with the Period, Deadline and Priority that section 4 finds; queues in order of first
 -- connection; a sender is in a queue exactly where a connection says so.
-use Rattle.common.specs.Words.{ℕ, zero, suc, ◌-◌, ◌/◌, ◌%◌, ◌<◌, ◌≤◌, arith, Bool, true, false, true≢false, not, cond, List, [], ◌∷◌, ◌++◌}
-use Rattle.common.specs.Words.{◌≡◌, refl, sym, ap, ◌∙◌, ◌⊎◌, inl, inr, ⊎_elim, eqb, eqb-true, ne_eqb, lt-ltb, length, length-append, get_or}
+use Rattle.common.specs.Words.{ℕ, zero, suc, ◌-◌, ◌/◌, ◌%◌, ◌<◌, ◌≤◌, arith, Bool, true, false, true≢false, not, cond, List}
+use Rattle.common.specs.Words.{[], ◌∷◌, ◌++◌}
+use Rattle.common.specs.Words.{◌≡◌, refl, sym, ap, ◌∙◌, ◌⊎◌, inl, inr, ⊎_elim, eqb, eqb-true, ne_eqb, lt-ltb, length}
+use Rattle.common.specs.Words.{length-append, get_or}
 use Rattle.common.specs.Words.{get_or-append, get_or_at}
 use Rattle.common.specs.Tests.{lt_or_le}
 use Rattle.common.specs.Table.{table, table_at}
@@ -35,7 +37,8 @@ module _ (so : ℕ → Bool) where
           inr (refl, (e, get_or_at (chosen_below so n) n [] 0 i (sym e)))
       go false l h = absurd (omega (arith, length-append (chosen_below so n) []))
 
-  pub chosen_so : (n i : ℕ) → i < length (chosen_below so n) → (get_or (chosen_below so n) i 0 < n) × (so (get_or (chosen_below so n) i 0) ≡ true)
+  pub chosen_so : (n i : ℕ) → i < length (chosen_below so n) →
+      (get_or (chosen_below so n) i 0 < n) × (so (get_or (chosen_below so n) i 0) ≡ true)
   unfolding chosen_below
   chosen_so zero i l = absurd (omega arith)
   chosen_so (suc n) i l =
@@ -100,7 +103,8 @@ module _ (p : List ℕ) (rows : List Row) where
       (chosen_so (λ (k : ℕ). eqb (cell rows k 0) a_thread) (length rows) i l).1
 
   -- what a column of the table has for one that there is
-  column_at : (ks : List ℕ) (of : ℕ → ℕ) (n i : ℕ) → i < n → i < length ks → get_or (table (at_or ks of 0) n) i 0 ≡ of (get_or ks i 0)
+  column_at : (ks : List ℕ) (of : ℕ → ℕ) (n i : ℕ) → i < n → i < length ks →
+      get_or (table (at_or ks of 0) n) i 0 ≡ of (get_or ks i 0)
   column_at ks of n i l h = table_at (at_or ks of 0) n i 0 l ∙ rw (lt-ltb i (length ks) h)
 
   -- each with its Period, Deadline and Priority
@@ -125,7 +129,8 @@ module _ (p : List ℕ) (rows : List Row) where
   queue_receiver j l h = column_at (queues_of p rows) (receiver_of p rows) queue_limit j l h
 
   pub queue_sender : (c : ℕ) → c < cell_limit → c / task_limit < length (queues_of p rows) → c % task_limit < length (threads_of rows) →
-      get_or (table_of p rows).sends c false ≡ joins p rows (get_or (queues_of p rows) (c / task_limit) 0) (get_or (threads_of rows) (c % task_limit) 0)
+      get_or (table_of p rows).sends c false ≡ joins p rows (get_or (queues_of p rows) (c / task_limit) 0)
+          (get_or (threads_of rows) (c % task_limit) 0)
   unfolding table_of
   queue_sender c l g h =
       table_at (sends_at p rows (threads_of rows) (queues_of p rows)) cell_limit c false l

@@ -46,7 +46,8 @@ declared process start n s = optionally (λ us. pointed (sending s) && pointed (
 
 -- port_kind place ( "->" | "->>" ) place [ block ] ";"
 unfoldable pub link : ℕ → ℕ → ℕ → Rule
-link process start n ps ts = quiet (λ us. ends (On us)) ps ts ⨟ maybe_block_in of_port ⨟ quiet (the SEMICOLON) ⨟ declared process start n (On ts)
+link process start n ps ts = quiet (λ us. ends (On us)) ps ts ⨟ maybe_block_in of_port ⨟ quiet (the SEMICOLON) ⨟ declared process start n
+    (On ts)
 
 -- other_kind = "data" "access" | "bus" | "virtual" | "subprogram" | "feature" | "parameter", by its first two words
 unfoldable pub other_kind : ℕ → ℕ → Bool

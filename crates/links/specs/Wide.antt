@@ -16,7 +16,8 @@ link_wide : (p start n : ℕ) → WideOn (link p start n)
 unfolding link declared link_row
 link_wide p start n ps ts =
     wide_onward _ (declared p start n (On ts))
-    (wide_onward _ (quiet (the SEMICOLON)) (wide_onward _ (maybe_block_in of_port) (wide_quiet (λ us. ends (On us)) ps ts) (maybe_block_wide of_port))
+    (wide_onward _ (quiet (the SEMICOLON)) (wide_onward _ (maybe_block_in of_port) (wide_quiet (λ us. ends (On us)) ps ts)
+        (maybe_block_wide of_port))
     (wide_quiet (the SEMICOLON)))
     (wide_optionally (λ us. pointed (sending (On ts)) && pointed (receiving (On ts)))
     (put (linked p start n (On ts))) (wide_put (linked p start n (On ts)) (λ qs. refl) (λ qs l. omega arith)))

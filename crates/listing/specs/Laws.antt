@@ -119,7 +119,8 @@ tasks_more period deadline priority l n =
     rw (add-one n, sets_append before line l 0, zero-add (length before), tasks_length period deadline priority n)
 
 pub queues_more : (receiver : List ℕ) (sends : List Bool) (l : List ℕ) (at n : ℕ) →
-    sets (sets l at (each_queue receiver sends n)) (at + queue_line * n) (line_of (queue_bytes (get_or receiver n 0) (mask_of (sender sends n) task_limit)))
+    sets (sets l at (each_queue receiver sends n)) (at + queue_line * n)
+        (line_of (queue_bytes (get_or receiver n 0) (mask_of (sender sends n) task_limit)))
     ≡ sets l at (each_queue receiver sends (n + 1))
 unfolding each_queue
 queues_more receiver sends l at n =

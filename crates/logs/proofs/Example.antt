@@ -3,7 +3,8 @@ use Rattle.common.specs.Words.{ℕ, ◌%◌, ◌≤◌, arith, List, [], ◌∷�
 use Rattle.common.specs.Totals.{sum, most}
 use Rattle.common.proofs.Rows.{every, some, first_bad}
 use Rattle.common.specs.Table.{table}
-use Rattle.model.specs.Model.{count, has_deadline, precedes, up_to, due_at, followers, number, wanted_for, horizon, outdated, euclid, gcd, lcm, multiple}
+use Rattle.model.specs.Model.{count, has_deadline, precedes, up_to, due_at, followers, number, wanted_for, horizon, outdated, euclid, gcd, lcm}
+use Rattle.model.specs.Model.{multiple}
 use Rattle.model.specs.Model.{hyperperiod, messages, need, row_slots, slots_over, slots, first, last, sender_of}
 use Rattle.calendar.specs.Calendar.{tick}
 use Rattle.plan.specs.Limits.{last_tick}
@@ -73,11 +74,15 @@ computed :
     × (lines_to table_a 0 1 (session_log memory input) ≡ gap_line 1 (sender 1) ∷ message_line ∷ gap_line 3 (sender 3) ∷ [])
     × AcceptedIn (session_log memory input) × StoredIn (session_log memory input) 0 2 payload × EndedIn table_a 0 1 (session_log memory input)
 unfolding
-    sound_plan checked_plan counts_good one_to task_good queue_good only_tasks_send places_good place_good every some first_bad sum most count has_deadline
-    precedes up_to due_at followers number wanted_for horizon outdated euclid gcd lcm multiple hyperperiod messages need row_slots slots_over slots last
+    sound_plan checked_plan counts_good one_to task_good queue_good only_tasks_send places_good place_good every some first_bad sum most count
+        has_deadline
+    precedes up_to due_at followers number wanted_for horizon outdated euclid gcd lcm multiple hyperperiod messages need row_slots slots_over slots
+        last
     tabled long_queue sized table_judged plan_of table bytes_of number_from stored cleared running.send_answer running.send_memory
-    running.look view_of start_answer start_memory send_state receive_state found digit is_line bytes_in digits value_at in_bytes frame_of payload_in each_size
-    sizes_bytes stored_bytes message_bytes gap_bytes empty_bytes line_of framed_bytes row_turn with_task with_queue planned with_run go_turn with_state call_turn
+    running.look view_of start_answer start_memory send_state receive_state found digit is_line bytes_in digits value_at in_bytes frame_of
+        payload_in each_size
+    sizes_bytes stored_bytes message_bytes gap_bytes empty_bytes line_of framed_bytes row_turn with_task with_queue planned with_run go_turn
+        with_state call_turn
     bytes_turn line_turn console_after answers_to log_of lines_to said_in
 computed = (
   refl,

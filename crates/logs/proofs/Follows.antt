@@ -1,5 +1,6 @@
 -- A session follows a history: from the accepted 03 on, the desk, the memory and the log are those of the calls that the lines make.
-use Rattle.common.specs.Words.{ℕ, arith, true, false, List, [], ◌∷◌, ◌++◌, append_assoc, append-nil, map, ◌⊎◌, inl, inr, ◌↔◌, ◌≡◌, refl}
+use Rattle.common.specs.Words.{ℕ, arith, true, false, List, [], ◌∷◌, ◌++◌, append_assoc, append-nil, map, ◌⊎◌, inl, inr, ◌↔◌}
+use Rattle.common.specs.Words.{◌≡◌, refl}
 use Rattle.common.specs.Words.{sym, ap, subst, ◌∙◌}
 use Rattle.plan.specs.Plan.{queue_at}
 use Rattle.planning.specs.AcceptedPlan.{Made}
@@ -8,7 +9,8 @@ use Rattle.frames.specs.Answers.{sizes_bytes, bad_bytes, line_of}
 use Rattle.desk.specs.Desk.{Turn, says, planned, with_run, with_state, line_turn}
 use Rattle.calls.specs.CallLines.{sent_bytes, filler, received_bytes}
 use Rattle.feed.specs.Answers as feed
-use Rattle.history.specs.History.{Call, send, receive, World, History, start, ◌then◌, same, more, Begins, after, world, send_says, receive_says, go_on}
+use Rattle.history.specs.History.{Call, send, receive, World, History, start, ◌then◌, same, more, Begins, after, world, send_says, receive_says}
+use Rattle.history.specs.History.{go_on}
 use Rattle.history.specs.History.{history, SentIn, Sends, reads, read_by, ReadToEnd}
 use Rattle.history.proofs.Lists.{go_on_append}
 use Rattle.logs.specs.Types.{Tick, Plan, Started, Received, Frame, Desk}
@@ -58,7 +60,8 @@ module _ {p : Plan} {m : List ℕ} {H : History} {w : feed.Console} {log : Log} 
   still_ended : {c : Call} {q k : ℕ} → ReadToEnd p m H q k → ReadToEnd p m (H then c) q k
   still_ended e = record { before = e.before; t = e.t; within = more e.within; job = e.job; answer = e.answer }
 
-  end_at : {q s t u k : ℕ} → q ≡ s → t ≡ u → receive_says p (world p m H) q t ≡ Received.Empty → receiving_job (queue_at p s) u ≡ k →
+  end_at : {q s t u k : ℕ} → q ≡ s → t ≡ u → receive_says p (world p m H) q t ≡ Received.Empty →
+      receiving_job (queue_at p s) u ≡ k →
       ReadToEnd p m (H then receive q t) s k
   end_at {q} {s} {t} {u} {k} e f a j =
       subst (λ (x : ℕ). ReadToEnd p m (H then receive x t) s k) (sym e)

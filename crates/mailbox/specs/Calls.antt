@@ -78,7 +78,8 @@ StartGives p m r memory = (r ≡ record { answer = start_answer p m; state = fre
 
 abbrev pub SendGives : State → Plan → List ℕ → ℕ → ℕ → ℕ → List ℕ → Sending → List ℕ → Type 0
 SendGives s p m q i t payload r memory =
-    (r ≡ record { answer = send_answer s p m q i t payload; state = send_state s p m q i t payload }) × (memory ≡ send_memory s p m q i t payload)
+    (r ≡ record { answer = send_answer s p m q i t payload; state = send_state s p m q i t payload })
+        × (memory ≡ send_memory s p m q i t payload)
 
 abbrev pub ReceiveGives : State → Plan → List ℕ → ℕ → ℕ → Receiving → Type 0
 ReceiveGives s p m q t r = r ≡ record { answer = look s p m q t; state = receive_state s p m q t }

@@ -40,7 +40,8 @@ found_no_refusal : (p : Plan) (m : List ℕ) (q n : ℕ) (r : Refusal) → found
 unfolding found
 found_no_refusal p m q n r = go (eqb (number_in payload_bytes m (slot_for p q n)) n)
   where
-    go : (b : Bool) → cond b (Received.Message (message n) (slot (slot_for p q n))) (Received.Gap (message n) (sender_of (queue_at p q) last_tick n))
+    go : (b : Bool) → cond b (Received.Message (message n) (slot (slot_for p q n)))
+        (Received.Gap (message n) (sender_of (queue_at p q) last_tick n))
         ≡ Received.Refused r → ⊥
     go true e = let z : ◌≡◌ {A = ℕ} 0 1 = cc in omega arith
     go false e = let z : ◌≡◌ {A = ℕ} 0 1 = cc in omega arith

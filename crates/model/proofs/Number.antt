@@ -1,6 +1,7 @@
 -- Message numbers: equation 2 is one more than the count of the messages before. The numbers rise with the order, and each from 1 on
 -- belongs to exactly one message, whose deadline is the least tick with so many messages up to it.
-use Rattle.common.specs.Words.{ℕ, suc, ◌+◌, ◌-◌, ◌*◌, ◌<◌, ◌≤◌, arith, ℕ_discrete, Bool, true, false, ◌↔◌, ⊎_elim, ◌≡◌, refl, sym}
+use Rattle.common.specs.Words.{ℕ, suc, ◌+◌, ◌-◌, ◌*◌, ◌<◌, ◌≤◌, arith, ℕ_discrete, Bool, true, false, ◌↔◌, ⊎_elim}
+use Rattle.common.specs.Words.{◌≡◌, refl, sym}
 use Rattle.common.specs.Words.{subst, ◌∙◌, eqb}
 use Rattle.common.specs.Totals.{only, sum, only_le, only_eq, only_most, only_zero, sum_le, sum_bound, sum_ext, sum_add}
 use Rattle.common.specs.Totals.{sum_one, sum_zero, sum_at, only_self, only_other, crossing}
@@ -28,7 +29,8 @@ module _ (q : Queue) (v : Valid q) where
       let s : Sender q j = record { row = l; on = y } in
       count_le (q.period j) (q.deadline j) (period_pos q v j s.row) (v.deadline_pos j s.row) t))
 
-  tick_of_lem : (t j : ℕ) → Sender q j → 1 ≤ t → count_of q t j ≡ count_of q (t - 1) j + only (has_deadline (q.period j) (q.deadline j) t) 1
+  tick_of_lem : (t j : ℕ) → Sender q j → 1 ≤ t → count_of q t j
+      ≡ count_of q (t - 1) j + only (has_deadline (q.period j) (q.deadline j) t) 1
   tick_of_lem t j s h = count_tick (q.period j) (q.deadline j) t (period_pos q v j s.row) (v.deadline_pos j s.row) h
 
   -- one row at tick t: what was counted before, and one if the row is due_at
@@ -130,7 +132,8 @@ module _ (q : Queue) (v : Valid q) where
     -- the deadline is the least t with number ≤ up_to q t
     pub number_iff : (t : ℕ) → (number q i k ≤ up_to q t) ↔ (deadline_of q i k ≤ t)
     number_iff t = (
-      λ h. ⊎_elim (λ (l : t < deadline_of q i k). absurd (omega (arith, number_above, up_to_mono t (deadline_of q i k - 1) (omega arith)))) (λ l. l)
+      λ h. ⊎_elim (λ (l : t < deadline_of q i k). absurd (omega (arith, number_above, up_to_mono t (deadline_of q i k - 1) (omega arith))))
+          (λ l. l)
           (lt_or_le t (deadline_of q i k)),
       λ h. omega (arith, number_below, up_to_mono (deadline_of q i k) t h),
     )

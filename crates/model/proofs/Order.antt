@@ -1,5 +1,6 @@
 -- Definition 1's order of the messages of a queue is strict and total, and for each sender it is a bound on its jobs.
-use Rattle.common.specs.Words.{ℕ, ◌-◌, ◌<◌, ◌≤◌, arith, eq_of_mul-eq-mul_right, ℕ_discrete, true, false, true≢false, ◌⊎◌, inl, inr}
+use Rattle.common.specs.Words.{ℕ, ◌-◌, ◌<◌, ◌≤◌, arith, eq_of_mul-eq-mul_right, ℕ_discrete, true, false, true≢false, ◌⊎◌}
+use Rattle.common.specs.Words.{inl, inr}
 use Rattle.common.specs.Words.{◌↔◌, ⊎_elim}
 use Rattle.common.specs.Words.{◌≡◌, refl, sym, subst, ◌∙◌}
 use Rattle.common.specs.Tests.{lt_or_le, true_or_false, clash}

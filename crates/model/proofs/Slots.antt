@@ -1,5 +1,6 @@
 -- The least number of slots: the second hyperperiod decides, and its greatest need is the least fit size.
-use Rattle.common.specs.Words.{ℕ, zero, suc, ◌+◌, ◌-◌, ◌*◌, ◌/◌, ◌<◌, ◌≤◌, arith, mul-le-mul_right, lt_of_mul-lt-mul_right}
+use Rattle.common.specs.Words.{ℕ, zero, suc, ◌+◌, ◌-◌, ◌*◌, ◌/◌, ◌<◌, ◌≤◌, arith, mul-le-mul_right}
+use Rattle.common.specs.Words.{lt_of_mul-lt-mul_right}
 use Rattle.common.specs.Words.{le_of_mul-le-mul_right}
 use Rattle.common.specs.Words.{le_refl, true, false, ◌↔◌, ⊎_elim, ◌≡◌, ap}
 use Rattle.common.specs.Tests.{lt_or_le, true_or_false}
@@ -107,4 +108,5 @@ module _ (q : Queue) (v : Valid q) where
 
   -- any other common multiple gives the same size
   pub slots_any : (H : ℕ) → CommonMultiple q H → slots_over q H ≡ slots q
-  slots_any H hy = omega (arith, (over_iff H hy (slots q)).0 slots_fit, (slots_iff (slots_over q H)).0 ((over_iff H hy (slots_over q H)).1 (le_refl _)))
+  slots_any H hy = omega (arith, (over_iff H hy (slots q)).0 slots_fit,
+      (slots_iff (slots_over q H)).0 ((over_iff H hy (slots_over q H)).1 (le_refl _)))

@@ -1,12 +1,14 @@
 -- What a sound plan has: rule 7 answers true exactly when these facts hold, and what the crates above use of them.
-use Rattle.common.specs.Words.{ℕ, ◌+◌, ◌<◌, ◌≤◌, arith, Bool, true, false, ◌&&◌, List, ◌↔◌, ◌≡◌, refl, sym, ◌∙◌, leb, get_or}
+use Rattle.common.specs.Words.{ℕ, ◌+◌, ◌<◌, ◌≤◌, arith, Bool, true, false, ◌&&◌, List, ◌↔◌, ◌≡◌, refl, sym, ◌∙◌}
+use Rattle.common.specs.Words.{leb, get_or}
 use Rattle.common.specs.Tests.{and_iff, having}
 use Rattle.common.specs.Totals.{sum, sum_next, sum_up}
 use Rattle.common.proofs.Rows.{every, every_iff, every_first_bad}
 use Rattle.model.specs.Model.{Sender}
 use Rattle.plan.specs.Limits.{most_slots}
 use Rattle.plan.specs.Plan.{zeros, sends_into, queue_at, size_at, place_at, slots_of, Usable}
-use Rattle.plan.specs.Rules.{counts_good, task_good_at, queue_good_at, place_good_at, places_good, checked_plan, sound_plan, bad_task, bad_queue, one_to}
+use Rattle.plan.specs.Rules.{counts_good, task_good_at, queue_good_at, place_good_at, places_good, checked_plan, sound_plan, bad_task, bad_queue}
+use Rattle.plan.specs.Rules.{one_to}
 use Rattle.plan.specs.Facts.{Counts, Task, Connected, Placed, le_iff, counts_iff, task_iff, queue_iff, place_iff}
 use Rattle.plan.specs.Connections.{Agree, bad_queue_same}
 use Rattle.plan.specs.declared.Plan.{Plan}

@@ -170,7 +170,8 @@ module _ (c : ℕ) where
       by_went (λ (s : State). property_at s.went < timing →
       state (s.went ⟫ association) s.props (worse s.fault (fault 20 (first s.went).start from_outside)) s.store
       ≡ does s (skipped_in c))
-      (λ ts qs x t l. rw (eq-eqb c of_process e, lt-ltb (property_at (On ts)) timing l)) (λ f qs x t l. absurd (omega (arith, property_stopped f))) s
+      (λ ts qs x t l. rw (eq-eqb c of_process e, lt-ltb (property_at (On ts)) timing l))
+          (λ f qs x t l. absurd (omega (arith, property_stopped f))) s
 
   -- by whether it is read here
   pub association_read : (s : State) → read_in c (property_at s.went) ≡ true →

@@ -138,7 +138,8 @@ module _ (text : List ℕ) where
         gone e =
             ⊎_elim (λ (r : ((worst no_fault (faults_of text)).number ≡ 0) × ((read_of text).answer ≡ Sound)).
             true≢false (ap is_sound (sym r.1 ∙ h)))
-            (λ (r : (0 < (worst no_fault (faults_of text)).number) × ((read_of text).answer ≡ Refused (refusal (worst no_fault (faults_of text))))).
+            (λ (r : (0 < (worst no_fault (faults_of text)).number)
+                × ((read_of text).answer ≡ Refused (refusal (worst no_fault (faults_of text))))).
             let n : (worst no_fault (faults_of text)).number ≡ 0 = ap (λ (f : Fault). f.number) e in omega (arith, r.0)) (read_by text)
 
     -- none stands at an earlier place, and none with a lower number at the same one

@@ -86,7 +86,8 @@ tree_room = 58256
 -- whether so much lent memory is enough for any text, whatever the text
 unfoldable pub enough : ℕ → ℕ → ℕ → ℕ → ℕ → ℕ → Bool
 enough plain rows declared connected queued types =
-    leb most_bytes plain && (leb rows_room rows && (leb tree_room declared && (leb tree_room connected && (leb tree_room queued && leb most_rows types))))
+    leb most_bytes plain && (leb rows_room rows && (leb tree_room declared &&
+        (leb tree_room connected && (leb tree_room queued && leb most_rows types))))
 
 unfoldable pub answer : Bool → List ℕ → Read
 answer room text = cond room (read_of text) (answered NoRoom no_table)

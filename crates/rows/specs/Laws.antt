@@ -175,7 +175,8 @@ module _ (b : List Token → Bool) (r : Rule) (adv : AdvancesOn b r) where
   moves_repeat ps ts = repeat_by_moves (suc (length ts)) ps ts
 
   -- as often as there are tokens is often enough
-  repeat_enough : (n m : ℕ) (ps : List ℕ) (ts : List Token) → length ts < n → length ts < m → repeat_by n b r ps ts ≡ repeat_by m b r ps ts
+  repeat_enough : (n m : ℕ) (ps : List ℕ) (ts : List Token) → length ts < n → length ts < m →
+      repeat_by n b r ps ts ≡ repeat_by m b r ps ts
   unfolding repeat_by
   repeat_enough zero m ps ts x y = absurd (omega arith)
   repeat_enough (suc n) zero ps ts x y = absurd (omega arith)

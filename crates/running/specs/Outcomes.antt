@@ -55,7 +55,8 @@ module _ (before unsent : ℕ) (p : Plan) (m : List ℕ) (q i t : ℕ) (payload 
   unfolding send_answer send_memory
   sent_clear f g = let e = sym f ∙ g in (by_clear lines Sent.Refused _ e, by_clear lines (λ r. m) _ e)
 
-  pub send_is_clear : (n : Number) (at : Slot) → send_answer before unsent p m q i t payload ≡ Sent.Stored n at → verdict lines ≡ Verdict.Clear
+  pub send_is_clear : (n : Number) (at : Slot) → send_answer before unsent p m q i t payload ≡ Sent.Stored n at →
+      verdict lines ≡ Verdict.Clear
   unfolding send_answer
   send_is_clear n at e =
       no_refusal lines Sent.Refused _ (Sent.Stored n at) (λ r f. let z : ◌≡◌ {A = ℕ} 0 1 = cc in omega arith) e

@@ -1,6 +1,7 @@
 -- What is read from a memory after a message was stored in it, or after its slots were cleared: laws of `stored` and `cleared`, over the
 -- payload's width w. They lean on the laws of a run of stores (common's Stores).
-use Rattle.common.specs.Words.{◌≡◌, refl, sym, ◌∙◌, ◌⊎◌, inl, inr, ⊎_elim, List, [], ◌∷◌, ◌++◌, ℕ, ◌+◌, ◌*◌, ◌/◌, ◌%◌, ◌≤◌, ◌<◌, ◌^◌}
+use Rattle.common.specs.Words.{◌≡◌, refl, sym, ◌∙◌, ◌⊎◌, inl, inr, ⊎_elim, List, [], ◌∷◌, ◌++◌, ℕ, ◌+◌, ◌*◌}
+use Rattle.common.specs.Words.{◌/◌, ◌%◌, ◌≤◌, ◌<◌, ◌^◌}
 use Rattle.common.specs.Words.{add-zero}
 use Rattle.common.specs.Words.{div-add-mod', div-div-eq-div-mul, mul-le-mul_right, arith, lit<, length, get_or, drop, replicate, length-append}
 use Rattle.common.specs.Words.{length-drop, length-replicate, get_or-replicate, get_or-append, sets, length-sets, drop_at, drop-set-lt}
@@ -74,7 +75,8 @@ from_zeros l b e =
 
 -- an index that the run does not meet
 unchanged :
-    (vs m : List ℕ) (at b k : ℕ) → k < 8 → (b + 8 ≤ at) ⊎ (at + length vs ≤ b) → get_or (sets m at vs) (b + k) 0 ≡ get_or m (b + k) 0
+    (vs m : List ℕ) (at b k : ℕ) → k < 8 → (b + 8 ≤ at) ⊎ (at + length vs ≤ b) →
+        get_or (sets m at vs) (b + k) 0 ≡ get_or m (b + k) 0
 unchanged vs m at b k h apart =
     ⊎_elim (λ (l : b + 8 ≤ at). sets_before vs m at (b + k) 0 (omega arith))
     (λ (l : at + length vs ≤ b). sets_after vs m at (b + k) 0 (omega arith)) apart

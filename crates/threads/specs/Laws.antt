@@ -29,7 +29,8 @@ module _ (p n : ℕ) (s : State) where
       (does_then s (quiet classifier) (maybe_block_in of_thread))
       ∙ ap (λ (r : State). does r (put (λ qs. thread_row p n t i qs)))
       (does_then s (λ ps ts. quiet classifier ps ts ⨟ maybe_block_in of_thread) (quiet (the SEMICOLON)))
-      ∙ does_then_at s (λ ps ts. quiet classifier ps ts ⨟ maybe_block_in of_thread ⨟ quiet (the SEMICOLON)) (put (λ qs. thread_row p n t i qs))
+      ∙ does_then_at s (λ ps ts. quiet classifier ps ts ⨟ maybe_block_in of_thread ⨟ quiet (the SEMICOLON))
+          (put (λ qs. thread_row p n t i qs))
       (λ ts. put (λ qs. thread_row p n (type_in ts) (implementation_in ts) qs))
       (λ ts w. rw (e, f, w))
 

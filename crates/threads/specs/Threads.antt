@@ -31,7 +31,8 @@ other_component k = cond (eqb k DATA) true (cond (eqb k SUBPROGRAM) true (cond (
 
 -- subcomponent = NAME ":" ( "thread" classifier [ block ] ";" | ( "data" | "subprogram" | "abstract" ) rest )
 unfoldable pub subcomponent_of : ℕ → ℕ → Rule
-subcomponent_of process n ps ts = let threaded = apart (thread process n) ps ts in cond (other_component (next ts)) (quiet word_and_rest ps ts) threaded
+subcomponent_of process n ps ts = let threaded = apart (thread process n) ps ts in
+    cond (other_component (next ts)) (quiet word_and_rest ps ts) threaded
 
 unfoldable pub subcomponent : ℕ → Rule
 subcomponent process ps ts = quiet label ps ts ⨟ subcomponent_of process (head ts).start

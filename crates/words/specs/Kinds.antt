@@ -228,7 +228,8 @@ DELAYED = 0x251
 
 -- each of them has the number of its word
 pub kinds_are :
-    map kind_of (words_by [] (letters "abstract access annex applies bus calls connections data device end event extends feature features flows group "
+    map kind_of
+        (words_by [] (letters "abstract access annex applies bus calls connections data device end event extends feature features flows group "
     ++ (letters "implementation in memory modes none out package parameter port private process processor properties property prototypes "
     ++ (letters "provides public requires subcomponents subprogram system thread virtual with period deadline dispatch_protocol "
     ++ (letters "dispatch_offset priority timing timing_properties thread_properties communication_properties ms sec periodic delayed")))))

@@ -5,7 +5,8 @@ use Rattle.plain.proofs.make_plain.Given as goal
 
 abbrev pub invariant-loop-i : goal.invariant-loop-i
 invariant-loop-i l =
-    (take l.i l.plain ++ plain_by l.comment l.left (drop l.i l.text) ≡ plain_of l.text) × (length l.plain ≡ length l.text) × (l.i ≤ length l.text)
+    (take l.i l.plain ++ plain_by l.comment l.left (drop l.i l.text) ≡ plain_of l.text) × (length l.plain ≡ length l.text)
+        × (l.i ≤ length l.text)
 
 abbrev pub decreases-loop-i : goal.decreases-loop-i
 decreases-loop-i l = length l.text - l.i
