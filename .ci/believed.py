@@ -102,10 +102,15 @@ def mentioned(text):
     return words - WORDS - bound(text)
 
 
+def is_ours(module):
+    ours = re.match(r'Rattle\.(\w+)\.', module)
+    return bool(ours) and ours.group(1) not in KITS
+
+
 def file_of(module):
     """The file that a module of ours is; nothing for the kit's modules and for the types that the code declares."""
     ours = OURS.match(module)
-    return f'crates/{ours.group(1)}/{ours.group(2)}/{ours.group(3)}.antt' if ours and ours.group(1) not in KITS else None
+    return f'crates/{ours.group(1)}/{ours.group(2)}/{ours.group(3)}.antt' if ours and is_ours(module) else None
 
 
 class Search:
@@ -143,7 +148,7 @@ class Search:
             self.declaration(page, page.declared[name])
         elif name in page.brought:
             module, original = page.brought[name]
-            if name in page.passed and (original != name or file_of(module) is None):
+            if name in page.passed and (original != name or not is_ours(module)):
                 self.definitions.setdefault(path, set()).add(name)  # it says what the name means: the kit's word, or another one of ours
             self.name(file_of(module), original)
         else:

@@ -26,7 +26,7 @@ use Rattle.history.proofs.Resized.{resized}
 use Rattle.history.proofs.Least.{Lost}
 use Rattle.history.proofs.Theorems.{least, sent_is_read}
 
--- "tasks 5/5, 7/7, 10/10 (period/deadline); the first two send to the third", with the 9 slots that it rules
+-- "tasks 5/5, 7/7, 10/10 (period/deadline); the first two send to the third", with the 9 slots that it needs
 abbrev pub table_a : Plan
 table_a = record {
   tasks = 3;

@@ -47,7 +47,7 @@ periods_fit q H hy = (whole (receiver_period q) (H / receiver_period q) hy.recei
     whole P (suc n) e = omega arith
 
 module _ (q : Queue) (v : Valid q) where
-  -- a message that rules more than L slots
+  -- a message that needs more than L slots
   needing : (L j x : ℕ) → Sender q j → x < hyperperiod q / q.period j → L < need q j (hyperperiod q / q.period j + x) → Short q L
   unfolding need
   needing L j x s b h =

@@ -55,7 +55,7 @@ module _ (room : Bool) (text : List ℕ) (sound : (answer room text).answer ≡ 
   over_one : Over T.tasks T.queues → import_of room text ≡ unplanned (Answer.TableRefused (unnamed TaskOrQueueCount)) T
   over_one h = sound_planned ∙ ap (with_plan T) (over_refused T h)
 
-  -- "a sound text of Over 16 threads or 8 queues gets 1"
+  -- "a sound text of over 16 threads or 8 queues gets 1"
   pub too_many_threads : 16 < T.tasks → import_of room text ≡ unplanned (Answer.TableRefused (unnamed TaskOrQueueCount)) T
   too_many_threads h = over_one (inl h)
 

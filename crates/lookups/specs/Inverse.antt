@@ -148,7 +148,7 @@ module _ (p : Plan) (q : ℕ) where
         to = w.1;
       }))
 
-  -- a window's numbers are those of the messages with deadlines in ((m-1)R, m_r]
+  -- a window's numbers are those of the messages with deadlines in ((m-1)R, mR]
   pub window_numbers_lem : (m : Job) (a b : Number) → window_of p q m ≡ Window.Numbers a b → (i k : ℕ) → Sender (queue_at p q) i →
       ((a.0 ≤ number (queue_at p q) i k) × (number (queue_at p q) i k ≤ b.0)) ↔
       (((m.0 - 1) * receiver_period (queue_at p q) < deadline_of (queue_at p q) i k)

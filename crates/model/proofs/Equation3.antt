@@ -1,4 +1,4 @@
--- Equation 3 is a bound that rules no hyperperiod: it is fit, so the least fit size is never above it.
+-- Equation 3 is a bound that needs no hyperperiod: it is fit, so the least fit size is never above it.
 use Rattle.common.specs.Words.{ℕ, ◌+◌, ◌/◌, ◌<◌, ◌≤◌, arith, le_refl}
 use Rattle.common.specs.Totals.{only, sum, only_le, only_add, sum_add, sum_le, most_le}
 use Rattle.model.specs.Model.{Queue, Valid, Sender, count_of, up_to, release_of, deadline_of, horizon, outdated, slots}

@@ -108,5 +108,8 @@ module _ (q : Queue) (v : Valid q) where
 
   -- any other common multiple gives the same size
   pub slots_any : (H : ℕ) → CommonMultiple q H → slots_over q H ≡ slots q
-  slots_any H hy = omega (arith, (over_iff H hy (slots q)).0 slots_fit,
-      (slots_iff (slots_over q H)).0 ((over_iff H hy (slots_over q H)).1 (le_refl _)))
+  slots_any H hy = omega (
+    arith,
+    (over_iff H hy (slots q)).0 slots_fit,
+    (slots_iff (slots_over q H)).0 ((over_iff H hy (slots_over q H)).1 (le_refl _)),
+  )

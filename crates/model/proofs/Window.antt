@@ -14,7 +14,7 @@ module _ (q : Queue) (v : Valid q) where
   unfolding last
   last_iff m i k s = number_iff q v i k s (m * receiver_period q)
 
-  -- "all messages with deadlines in ((m-1)R, m_r]". A deadline is never 0, so job 0's window has none
+  -- "all messages with deadlines in ((m-1)R, mR]". A deadline is never 0, so job 0's window has none
   pub window_iff : (m i k : ℕ) → Sender q i →
       ((first q m ≤ number q i k) × (number q i k ≤ last q m)) ↔
       (((m - 1) * receiver_period q < deadline_of q i k) × (deadline_of q i k ≤ m * receiver_period q))

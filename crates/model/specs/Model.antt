@@ -6,10 +6,9 @@ use Rattle.common.specs.Words.{◌≡◌, leb, ltb, eqb}
 use Rattle.common.specs.Terms.{only, sum, most, first_bad}
 unfoldable pub use Rattle.common.specs.Terms.{euclid, gcd, lcm}
 
--- One task, with period P and deadline D. "Job k (from 0) is released at k_p, has its deadline at k_p + D."
+-- One task, with period P and deadline D. "Job k (from 0) is released at kP, has its deadline at kP + D."
 abbrev pub released : ℕ → ℕ → ℕ
 released P k = k * P
-
 abbrev pub due : ℕ → ℕ → ℕ → ℕ
 due P D k = k * P + D
 
@@ -98,14 +97,14 @@ unfoldable pub job_of : Queue → ℕ → ℕ → ℕ
 job_of q last_tick n = (tick_of q last_tick n - q.deadline (sender_of q last_tick n)) / q.period (sender_of q last_tick n)
 
 -- ## Windows
--- "Job m of a receiver with period R has the window of all messages with deadlines in ((m-1)R, m_r]": numbers `first` to `last`, if any.
+-- "Job m of a receiver with period R has the window of all messages with deadlines in ((m-1)R, mR]": numbers `first` to `last`, if any.
 unfoldable pub last : Queue → ℕ → ℕ
 last q m = up_to q (released (receiver_period q) m)
 
 abbrev pub first : Queue → ℕ → ℕ
 first q m = last q (m - 1) + 1
 
--- "It is wanted until the receiver's job deadline, m_r + the receiver's D": so long after the release of the job that is given it,
+-- "It is wanted until the receiver's job deadline, mR + the receiver's D": so long after the release of the job that is given it,
 unfoldable pub wanted_for : Queue → ℕ
 wanted_for q = receiver_deadline q
 

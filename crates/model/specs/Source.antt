@@ -1,6 +1,6 @@
 -- What source 000 and document 01 say of the numbers and sizes that Model computes, for the laws to hold them to: the order of
 -- Definition 1, when a message is outdated, which numbers of slots are fit, equation 3, common multiples and divisors.
--- There are definitions only. No contract of the code rules them.
+-- There are definitions only. No contract of the code needs them.
 use Rattle.common.specs.Words.{ℕ, ◌+◌, ◌-◌, ◌*◌, ◌/◌, ◌<◌, ◌≤◌, ◌∣◌, true, cond, ◌⊎◌, ◌≡◌}
 use Rattle.common.specs.Terms.{only, sum, most}
 use Rattle.model.specs.Model.{Queue, Sender, receiver_period, release_of, deadline_of, precedes, count_of, number, wanted_until}
@@ -15,7 +15,7 @@ abbrev pub Ahead : Queue → ℕ → ℕ → Type 0
 Ahead q i j = (q.priority j < q.priority i) ⊎ ((q.priority i ≡ q.priority j) × (i < j))
 
 -- "The number is the count of messages of that queue strictly before, plus one": row j's messages before (i, k) are its jobs below this
--- bound (law `before_iff`), and the number is one more than the sum of the bounds (law `number_Counts`).
+-- bound (law `before_iff`), and the number is one more than the sum of the bounds (law `number_counts`).
 unfoldable pub jobs_before : Queue → ℕ → ℕ → ℕ → ℕ
 jobs_before q i k j =
     cond (precedes q j i) (count_of q (deadline_of q i k) j) (count_of q (deadline_of q i k - 1) j)
