@@ -1,0 +1,12 @@
+-- `index::declared_key`: by what the row is.
+use Rattle.common.specs.Tests.{tests}
+use Rattle.index.specs.Index.{declared_key}
+use Rattle.index.proofs.declared_key.Goals as goal
+
+pub returns-then-sort-eq-PROCESS : goal.returns-then-sort-eq-PROCESS
+unfolding declared_key
+returns-then-sort-eq-PROCESS c = search tests
+
+pub returns : goal.returns
+unfolding declared_key
+returns c = search (tests, c.own_name.ensures)
