@@ -11,7 +11,7 @@ use std::io::{Read, Stderr, Stdin, Stdout};
 // Whether a program has to go on. Its fields are this crate's own, so that only a read that gave nothing and a write that failed close a
 // stream: a program whose contract asks for a closed one cannot give up before. A proved loop has to end, and nothing says that the
 // input does: so a stream counts its blocks down, from a number that no run uses up.
-#[derive(Drop)]
+#[derive(Clone, Copy)]
 pub struct Stream {
     is_open: bool,
     left: u64,

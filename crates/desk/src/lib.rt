@@ -14,7 +14,7 @@ use mailbox::State;
 use plan::Plan;
 use table::{add_queue, add_task, go};
 
-#[derive(Drop)]
+#[derive(Clone, Copy)]
 pub struct Desk {
     // the rows of the table so far
     pub tasks: usize,

@@ -6,7 +6,7 @@ use calendar::Tick;
 use digits::numbers::value_at;
 
 // The payload of a send is not taken out: `payload_in` shows where it lies.
-#[derive(Drop)]
+#[derive(Clone, Copy)]
 pub enum Frame {
     Task(u64, u64, u8),
     Queue(usize, u64),

@@ -12,7 +12,7 @@ use plan::Plan;
 pub use running::{Received, Sent, Started};
 
 // What the calls remember from one to the next. It is handed in and comes back by value.
-#[derive(Drop)]
+#[derive(Clone, Copy)]
 pub struct State {
     // the tick of the last accepted send or receive
     pub tick: Tick,
@@ -34,7 +34,7 @@ pub struct Sending {
     pub state: State,
 }
 
-#[derive(Drop)]
+#[derive(Clone, Copy)]
 pub struct Receiving {
     pub answer: Received,
     pub state: State,

@@ -16,14 +16,14 @@ pub enum Started {
 }
 
 // The slot is counted within its queue.
-#[derive(Drop)]
+#[derive(Clone, Copy)]
 pub enum Sent {
     Stored(Number, Slot),
     Refused(Refusal),
 }
 
 // A message's slot is counted from the start of memory; a gap names the row of the sender that sent nothing.
-#[derive(Drop)]
+#[derive(Clone, Copy)]
 pub enum Received {
     Message(Number, Slot),
     Gap(Number, usize),
