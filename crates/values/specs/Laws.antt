@@ -1,14 +1,13 @@
 -- Laws of values: each rule goes on by a token at least, and rules in a row begin from what a rule has said.
-use Rattle.common.specs.Words.{ℕ, zero, suc, ◌-◌, ◌<◌, ◌≤◌, arith, Bool, true, false, true≢false, cond, List, ◌⊎◌}
-use Rattle.common.specs.Words.{⊎_elim, ◌≡◌, refl, sym, ap, ◌∙◌, eqb, ne_eqb, eq-eqb, eqb-true}
-use Rattle.words.specs.Words.{is_name}
+use Rattle.common.specs.Words.{ℕ, zero, suc, ◌-◌, ◌<◌, ◌≤◌, arith, true, false, true≢false, cond, List, ◌⊎◌}
+use Rattle.common.specs.Words.{⊎_elim, ◌≡◌, refl, sym, ◌∙◌}
 use Rattle.words.specs.Kinds.{ENDED, ADDS, BECOMES, SCOPE, COMMA, SEMICOLON, OPEN-PAREN, CLOSE-PAREN, OPEN-BRACKET}
 use Rattle.words.specs.Kinds.{CLOSE-BRACKET, OPEN-BRACE, CLOSE-BRACE}
 use Rattle.tokens.specs.Tokens.{Token}
 use Rattle.tokens.specs.Laws.{cases}
 use Rattle.steps.specs.Steps.{Step, On, Stop, ◌⟫◌, next, is, named, stop_at, unfit, any, the, name, many}
 use Rattle.steps.specs.Lifted.{first_kind}
-use Rattle.steps.specs.Laws.{Moved, Moves, Advances, advances, stopped, moved_any, moved_then, moved_less, moved_either}
+use Rattle.steps.specs.Laws.{Moved, Moves, advances, stopped, moved_any, moved_then, moved_less, moved_either}
 use Rattle.steps.specs.Laws.{moves_the, moves_name, moves_many}
 use Rattle.steps.specs.Laws.{then_then, choose_on, choose_off, kind_on, kind_off, is_on, is_off}
 use Rattle.common.specs.Tests.{lt_or_le}

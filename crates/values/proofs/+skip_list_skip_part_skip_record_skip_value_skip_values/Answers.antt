@@ -1,8 +1,8 @@
 -- The cycle of `values::skip_value`: a value calls its parts, a part that is a list or a record calls back with one bracket less to open.
-use Rattle.common.specs.Words.{rules, ◌≡◌, refl, sym, ◌∙◌, arith, inl, inr}
+use Rattle.common.specs.Words.{rules, refl, sym, ◌∙◌, arith, inl, inr}
 use Rattle.words.specs.Words.{is_name}
 use Rattle.words.specs.Kinds.{COMMA}
-use Rattle.steps.specs.Steps.{◌⟫◌, is as is_kind, named, the, many}
+use Rattle.steps.specs.Steps.{is as is_kind, named, the}
 use Rattle.steps.specs.Lifted.{lift}
 use Rattle.steps.specs.Laws.{then_then, kind_on, kind_off, is_on, is_off, advances, many_on, many_off, many_less}
 use Rattle.values.specs.Values.{part_kind, begins_part, comma_by, field_by, part_of, value_of}

@@ -1,5 +1,5 @@
 -- `values::assigns`.
-use Rattle.common.specs.Words.{rules, ◌≡◌, refl, sym, ◌∙◌}
+use Rattle.common.specs.Words.{sym, ◌∙◌}
 use Rattle.steps.specs.Lifted.{lift}
 use Rattle.values.specs.Laws.{assigns_adds, assigns_becomes}
 use Rattle.values.proofs.assigns.Goals as goal

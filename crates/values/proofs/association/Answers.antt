@@ -1,5 +1,4 @@
 -- `values::association`.
-use Rattle.common.specs.Words.{rules, ◌≡◌, refl, sym, ◌∙◌}
 use Rattle.steps.specs.Lifted.{lift}
 use Rattle.values.specs.Laws.{association_then}
 use Rattle.values.proofs.association.Goals as goal

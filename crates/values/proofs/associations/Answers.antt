@@ -1,8 +1,8 @@
 -- `values::associations`: what is left to pass ends where the whole does.
-use Rattle.common.specs.Words.{rules, ◌≡◌, refl, sym, ◌∙◌}
+use Rattle.common.specs.Words.{rules, refl, ◌∙◌}
 use Rattle.words.specs.Words.{is_name}
-use Rattle.steps.specs.Steps.{◌⟫◌, named, many}
-use Rattle.steps.specs.Lifted.{lift, size}
+use Rattle.steps.specs.Steps.{named}
+use Rattle.steps.specs.Lifted.{lift}
 use Rattle.steps.specs.Laws.{kind_on, kind_off, advances, many_on, many_off, many_less}
 use Rattle.values.specs.Values.{association, associations}
 use Rattle.values.specs.Laws.{association_moves}

@@ -1,5 +1,4 @@
 -- `values::begins_part`.
-use Rattle.common.specs.Words.{rules}
 use Rattle.common.specs.Tests.{tests}
 use Rattle.values.specs.Values.{part_kind}
 use Rattle.values.proofs.begins_part.Goals as goal

@@ -1,5 +1,4 @@
 -- `values::block`.
-use Rattle.common.specs.Words.{rules, ◌≡◌, refl, sym, ◌∙◌}
 use Rattle.steps.specs.Lifted.{lift}
 use Rattle.values.specs.Laws.{block_then}
 use Rattle.values.proofs.block.Goals as goal

@@ -1,11 +1,9 @@
 -- `values::scoped`: what is left to pass ends where the whole does.
-use Rattle.common.specs.Words.{rules, ◌≡◌, refl, sym, ◌∙◌, arith}
+use Rattle.common.specs.Words.{◌≡◌}
 use Rattle.words.specs.Kinds.{SCOPE}
-use Rattle.steps.specs.Steps.{◌⟫◌, is, the, name, many}
+use Rattle.steps.specs.Steps.{◌⟫◌, is, many}
 use Rattle.steps.specs.Lifted.{lift, size}
-use Rattle.steps.specs.Laws.{then_then, is_on, is_off, advances, many_on, many_off, many_less}
 use Rattle.values.specs.Values.{inner}
-use Rattle.values.specs.Laws.{inner_moves, scoped_then}
 use Rattle.values.proofs.scoped.Given as goal
 
 abbrev pub invariant-loop-w : goal.invariant-loop-w

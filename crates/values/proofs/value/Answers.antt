@@ -1,5 +1,5 @@
 -- `values::value`.
-use Rattle.common.specs.Words.{rules, ◌≡◌, refl, sym, ◌∙◌}
+use Rattle.common.specs.Words.{rules}
 use Rattle.values.specs.Values.{value}
 use Rattle.values.proofs.value.Goals as goal
 

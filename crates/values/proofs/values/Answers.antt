@@ -1,5 +1,5 @@
 -- `values::values`.
-use Rattle.common.specs.Words.{rules, ◌≡◌, refl, sym, ◌∙◌}
+use Rattle.common.specs.Words.{rules}
 use Rattle.values.specs.Values.{value, values}
 use Rattle.values.proofs.values.Goals as goal
 
