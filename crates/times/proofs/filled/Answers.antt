@@ -1,6 +1,6 @@
 -- `times::filled`: what is left to fill gives the whole.
-use Rattle.common.specs.Words.{rules, ◌≡◌, refl, ◌∙◌, ◌≤◌}
-use Rattle.times.specs.Times.{filled, most}
+use Rattle.common.specs.Words.{rules, ◌≡◌, refl, ◌∙◌}
+use Rattle.times.specs.Times.{filled}
 use Rattle.times.specs.Sums.{grown}
 use Rattle.times.specs.Laws.{filled_more}
 use Rattle.times.proofs.filled.Goals as goal

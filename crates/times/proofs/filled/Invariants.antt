@@ -1,8 +1,7 @@
 -- `times::filled`: what is left to fill gives the whole.
-use Rattle.common.specs.Words.{rules, ◌≡◌, refl, ◌∙◌, ◌≤◌}
+use Rattle.common.specs.Words.{◌≡◌, ◌≤◌}
 use Rattle.times.specs.Times.{filled, most}
 use Rattle.times.specs.Sums.{grown}
-use Rattle.times.specs.Laws.{filled_more}
 use Rattle.times.proofs.filled.Given as goal
 
 abbrev pub invariant-loop-left : goal.invariant-loop-left

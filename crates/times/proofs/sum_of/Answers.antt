@@ -1,8 +1,7 @@
 -- `times::sum_of`: the sum of what is left, from the sum so far, is the whole.
-use Rattle.common.specs.Words.{rules, ◌≡◌, refl, ◌+◌, ◌-◌, ◌≤◌, arith}
-use Rattle.common.specs.Stores.{part, part_cons}
-use Rattle.times.specs.Times.{with_bytes, most}
-use Rattle.times.specs.Sums.{grown, counted}
+use Rattle.common.specs.Words.{rules, ◌≡◌, refl, ◌+◌, ◌-◌, arith}
+use Rattle.common.specs.Stores.{part_cons}
+use Rattle.times.specs.Times.{with_bytes}
 use Rattle.times.proofs.sum_of.Goals as goal
 
 pub loop-i-init : goal.loop-i-init

@@ -1,6 +1,6 @@
 -- `times::sum_of`: the sum of what is left, from the sum so far, is the whole.
-use Rattle.common.specs.Words.{rules, ◌≡◌, refl, ◌+◌, ◌-◌, ◌≤◌, arith}
-use Rattle.common.specs.Stores.{part, part_cons}
+use Rattle.common.specs.Words.{◌≡◌, ◌-◌, ◌≤◌}
+use Rattle.common.specs.Stores.{part}
 use Rattle.times.specs.Times.{with_bytes, most}
 use Rattle.times.specs.Sums.{grown, counted}
 use Rattle.times.proofs.sum_of.Given as goal

@@ -1,5 +1,5 @@
 -- `times::time`: no number, no unit, a unit that is known, and one that is not.
-use Rattle.common.specs.Words.{rules, arith}
+use Rattle.common.specs.Words.{arith}
 use Rattle.times.specs.Times.{time}
 use Rattle.times.specs.Laws.{stopped_before, time_unfit, time_missing, time_ms, time_sec, time_unknown}
 use Rattle.times.proofs.time.Goals as goal

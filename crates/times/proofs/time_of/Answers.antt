@@ -1,5 +1,4 @@
 -- `times::time_of`.
-use Rattle.common.specs.Words.{rules}
 use Rattle.times.specs.Laws.{time_whole, time_not_whole}
 use Rattle.times.proofs.time_of.Goals as goal
 

@@ -1,5 +1,5 @@
 -- `times::priorities::priority`: nothing there, no number, and a number.
-use Rattle.common.specs.Words.{rules, arith}
+use Rattle.common.specs.Words.{arith}
 use Rattle.times.specs.Priorities.{priority}
 use Rattle.times.specs.Laws.{stopped_before}
 use Rattle.times.specs.PriorityLaws.{priority_unfit, priority_number}
