@@ -1,0 +1,9 @@
+-- `phrases::classifier`.
+use Rattle.steps.specs.Lifted.{lift}
+use Rattle.phrases.specs.Laws.{classifier_then}
+use Rattle.phrases.proofs.classifier.Goals as goal
+
+pub returns : goal.returns
+returns c =
+    let k = c in let a = k.args in
+    rw (c.dotted.ensures, k.name.ensures, k.scopes.ensures) (classifier_then (lift a.text.now a.went))

@@ -1,0 +1,32 @@
+-- `phrases::paths`: what is left to pass ends where the whole does.
+use Rattle.common.specs.Words.{arith, refl, sym, ◌∙◌}
+use Rattle.words.specs.Kinds.{COMMA}
+use Rattle.steps.specs.Steps.{is, the}
+use Rattle.steps.specs.Lifted.{lift}
+use Rattle.steps.specs.Laws.{then_then, is_on, is_off, many_on, many_off, many_less}
+use Rattle.phrases.specs.Phrases.{path, another}
+use Rattle.phrases.specs.Laws.{another_advances, paths_then}
+use Rattle.phrases.proofs.paths.Goals as goal
+
+pub loop-w-init : goal.loop-w-init
+loop-w-init c = refl
+
+pub loop-w-smaller : goal.loop-w-smaller
+loop-w-smaller c =
+    let k = c in let l = k in let s = lift l.args.text.now l.loop-w.w in
+    rw (c.path-w-in-loop-w.ensures, c.symbol.ensures, then_then s (the COMMA) path)
+    (many_less (is COMMA) another another_advances s (is_on COMMA s (λ e. omega arith) (sym k.next.ensures ∙ k.loop-w-test.true)))
+
+pub loop-w-preserved : goal.loop-w-preserved
+loop-w-preserved c =
+    let k = c in let l = k in let s = lift l.args.text.now l.loop-w.w in
+    rw (c.path-w-in-loop-w.ensures, c.symbol.ensures, then_then s (the COMMA) path)
+    (many_on (is COMMA) another another_advances s (is_on COMMA s (λ e. omega arith) (sym k.next.ensures ∙ k.loop-w-test.true))
+    ∙ l.loop-w.invariant)
+
+pub returns : goal.returns
+returns c =
+    let k = c in let l = k in let a = l.args in let s = lift a.text.now l.loop-w.w in
+    let h = is_off COMMA s (λ e. k.loop-w-test.false (k.next.ensures ∙ e)) in
+    rw (c.symbol-2.ensures, many_off (is COMMA) another another_advances s h ∙ l.loop-w.invariant, l.path-w.ensures)
+    (paths_then (lift a.text.now a.went))

@@ -1,0 +1,30 @@
+-- `phrases::skipped`: what is left to pass ends where the whole does.
+use Rattle.common.specs.Words.{refl, ◌∙◌}
+use Rattle.steps.specs.Steps.{any}
+use Rattle.steps.specs.Lifted.{lift}
+use Rattle.steps.specs.Laws.{kind_off, many_on, many_off, many_less}
+use Rattle.phrases.specs.Phrases.{skip_kind}
+use Rattle.phrases.specs.Laws.{skip_advances, skip_on, skipped_then}
+use Rattle.phrases.proofs.skipped.Goals as goal
+
+pub loop-w-init : goal.loop-w-init
+loop-w-init c = refl
+
+pub loop-w-smaller : goal.loop-w-smaller
+loop-w-smaller c =
+    let k = c in let l = k in let s = lift l.args.text.now l.loop-w.w in
+    rw c.any-w-in-loop-w.ensures
+    (many_less _ any skip_advances s (skip_on s (rw (← k.next.ensures, ← k.in_section.ensures) c.loop-w-test.true)))
+
+pub loop-w-preserved : goal.loop-w-preserved
+loop-w-preserved c =
+    let k = c in let l = k in let s = lift l.args.text.now l.loop-w.w in
+    rw c.any-w-in-loop-w.ensures
+    (many_on _ any skip_advances s (skip_on s (rw (← k.next.ensures, ← k.in_section.ensures)
+    c.loop-w-test.true)) ∙ l.loop-w.invariant)
+
+pub returns : goal.returns
+returns c =
+    let k = c in let l = k in let a = l.args in let s = lift a.text.now l.loop-w.w in
+    many_off _ any skip_advances s (kind_off skip_kind s (rw (← k.next.ensures, ← k.in_section.ensures) c.loop-w-test.false))
+    ∙ l.loop-w.invariant ∙ rw l.any-w.ensures (skipped_then (lift a.text.now a.went))
