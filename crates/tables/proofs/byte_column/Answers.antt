@@ -1,14 +1,10 @@
 -- `tables::byte_column`: before the loop's row the values are those that are counted, from it on those that were handed in.
-use Rattle.common.specs.Words.{ℕ, ℕ_discrete, ◌+◌, ◌-◌, ◌<◌, ◌≤◌, le_refl, arith, List, ◌≡◌, refl, sym, subst, ◌∙◌, length, get_or, set}
+use Rattle.common.specs.Words.{ℕ, ℕ_discrete, ◌+◌, ◌<◌, ◌≤◌, le_refl, arith, List, ◌≡◌, sym, subst, ◌∙◌, length, get_or, set}
 use Rattle.common.specs.Words.{lt-ltb, le-ltb, ext_get_or, get_or-set_same, get_or-set_other, rules}
-use Rattle.common.specs.Table.{table, table_at, table_length}
+use Rattle.common.specs.Table.{table_at, table_length}
 use Rattle.tables.specs.Table.{value_within, counted}
-use Rattle.tables.proofs.byte_column.Statement.{statement}
-use Rattle.tables.proofs.byte_column.Tie as tie
-
--- of the rows before i
-abbrev Done : ℕ → List ℕ → ℕ → List ℕ → Type 0
-Done tasks values i out = (j : ℕ) → j < i → get_or out j 0 ≡ value_within tasks values j
+use Rattle.tables.proofs.byte_column.Goals as goal
+use Rattle.tables.proofs.byte_column.Invariants.{Done}
 
 begun : (tasks : ℕ) (values : List ℕ) → Done tasks values tasks values
 begun tasks values j l = rw (lt-ltb j tasks l)
@@ -29,27 +25,17 @@ all tasks values i out h e d =
     ext_get_or 0 out (counted 16 tasks values) (e ∙ sym (table_length (value_within tasks values) 16))
     (λ j l. d j (omega (arith, e)) ∙ sym (table_at (value_within tasks values) 16 j 0 (omega (arith, e))))
 
-abbrev invariant-loop : tie.invariant-loop
-invariant-loop tasks values i₀ out i = (tasks ≤ i) × (length out ≡ 16) × Done tasks values i out
+pub loop-i-init : goal.loop-i-init
+loop-i-init c = (le_refl _, search rules, begun c.args.tasks c.args.values)
 
-abbrev decreases-loop : tie.decreases-loop
-decreases-loop tasks values i₀ out i = 16 - i
-
-loop-holds : tie.Need-loop-init invariant-loop decreases-loop
-loop-holds c = (le_refl _, search rules, begun c.args.tasks c.args.values)
-
-loop-again : tie.Need-loop-preserved invariant-loop decreases-loop
-loop-again c =
-    let l = c.before.loop in
-    let a = c.before.before.args in
+pub loop-i-preserved : goal.loop-i-preserved
+loop-i-preserved c =
+    let l = c.loop-i in
+    let a = c.args in
     (omega arith, search rules, more a.tasks a.values l.i l.out l.invariant.0 (search rules) l.invariant.2)
 
-returns : tie.Need-returns invariant-loop decreases-loop
+pub returns : goal.returns
 returns c =
-    let l = c.before.loop in
-    let a = c.before.before.args in
+    let l = c.loop-i in
+    let a = c.args in
     all a.tasks a.values l.i l.out (omega arith) l.invariant.1 l.invariant.2
-
-pub byte_column_spec : {M : Type 1} → statement M
-byte_column_spec =
-    tie.close (tie.spec invariant-loop decreases-loop loop-holds (λ c. search rules) (λ c. search rules) (λ c. search rules) loop-again returns)
