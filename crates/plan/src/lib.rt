@@ -9,7 +9,7 @@ ghost use Rattle.plan.specs.Limits.{task_limit, queue_limit, cell_limit, longest
 ghost use Rattle.plan.specs.Limits.{most_slots, last_tick, payload_bytes, slot_bytes};
 ghost use Rattle.plan.specs.Plan.{zeros};
 
-#[derive(Drop)]
+#[derive(Clone, Copy)]
 pub struct Plan {
     pub tasks: usize,
     pub queues: usize,
