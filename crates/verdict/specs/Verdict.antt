@@ -97,7 +97,7 @@ out_faults rows k port =
 unfoldable pub in_faults : List Row → ℕ → ℕ → Bool → List Fault
 in_faults rows k port ends =
     cond (none port) (fault_if ends 21 (cell rows k 7) no_such_port)
-        (fault_if (eqb (cell rows (port - 1) 3) only_out) 20 (cell rows k 7) wrong_direction)
+    (fault_if (eqb (cell rows (port - 1) 3) only_out) 20 (cell rows k 7) wrong_direction)
 
 -- 24 at "the connection's first token": "its sending thread and its receiving port are an earlier connection's"
 unfoldable pub twice_faults : List ℕ → List Row → ℕ → List Fault
@@ -124,7 +124,7 @@ link_faults p rows k = end_faults p rows k (thread_named p rows (cell rows k 1) 
 unfoldable pub row_faults : List ℕ → List Row → ℕ → List Fault
 row_faults p rows k =
     again_faults p rows k ++ cond (eqb (cell rows k 0) a_thread) (thread_faults p rows k)
-        (cond (eqb (cell rows k 0) a_link) (link_faults p rows k) [])
+    (cond (eqb (cell rows k 0) a_link) (link_faults p rows k) [])
 
 -- those of the first n rows
 unfoldable pub faults_below : List ℕ → List Row → ℕ → List Fault
