@@ -2,16 +2,15 @@
 use Rattle.common.specs.Words.{ℕ, ◌<◌, ◌≤◌, arith, Bool, true, false, true≢false, cond, List, [], ◌∷◌, ◌≡◌, refl, sym}
 use Rattle.common.specs.Words.{ap, ◌∙◌, eqb, ltb, get_or, set, eq-eqb, ne_eqb}
 use Rattle.common.specs.Words.{lt-ltb, le-ltb, ltb-true, eqb-true}
-use Rattle.words.specs.Words.{is_name}
-use Rattle.words.specs.Kinds.{ENDED, SCOPE, BECOMES, SEMICOLON, NONE, OPEN-BRACE, CLOSE-BRACE, PROPERTIES}
+use Rattle.words.specs.Kinds.{SCOPE, BECOMES, SEMICOLON, NONE, OPEN-BRACE, CLOSE-BRACE, PROPERTIES}
 use Rattle.tokens.specs.Tokens.{Token}
 use Rattle.tokens.specs.Laws.{cases}
 use Rattle.steps.specs.declared.Fault.{Fault}
 use Rattle.steps.specs.Faults.{fault, no_fault, worse, worst}
 use Rattle.steps.specs.Worse.{worst_first}
-use Rattle.steps.specs.Steps.{Step, On, Stop, ◌⟫◌, head, is, named, any, the, name}
+use Rattle.steps.specs.Steps.{Step, On, Stop, ◌⟫◌, head, is, named, the, name}
 use Rattle.steps.specs.Lifted.{first, first_kind, second_kind, holds}
-use Rattle.steps.specs.Laws.{Moved, Moves, went, stopped, goes_none, moved_on, moved_then, moved_less, moved_either, moves_the}
+use Rattle.steps.specs.Laws.{Moved, went, stopped, moved_on, moved_then, moved_less, moves_the}
 use Rattle.steps.specs.Laws.{moves_name, is_on, is_off}
 use Rattle.values.specs.Values.{value, scoped, association}
 use Rattle.values.specs.Laws.{value_moves, scoped_moves, association_moves}
@@ -23,7 +22,7 @@ use Rattle.times.specs.Laws.{time_moves}
 use Rattle.times.specs.Priorities.{priority_from}
 use Rattle.times.specs.PriorityLaws.{priority_moves}
 use Rattle.rows.specs.Rows.{Store, with_rows}
-use Rattle.rows.specs.Said.{Said, said, Rule, quiet, ◌⨟◌, optionally, repeat}
+use Rattle.rows.specs.Said.{Said, Rule, quiet, ◌⨟◌}
 use Rattle.rows.specs.States.{State, state, does}
 use Rattle.rows.specs.Laws.{MovesOn, moved_onward, moves_quiet, moves_optionally, moves_repeat, advances_on, by_went, does_then, does_on, does_off}
 use Rattle.properties.specs.Properties.{protocol, offset, priority, timing, another, named_by, set_of, property_by, inner_name}
@@ -171,7 +170,7 @@ module _ (c : ℕ) where
       state (s.went ⟫ association) s.props (worse s.fault (fault 20 (first s.went).start from_outside)) s.store
       ≡ does s (skipped_in c))
       (λ ts qs x t l. rw (eq-eqb c of_process e, lt-ltb (property_at (On ts)) timing l))
-          (λ f qs x t l. absurd (omega (arith, property_stopped f))) s
+      (λ f qs x t l. absurd (omega (arith, property_stopped f))) s
 
   -- by whether it is read here
   pub association_read : (s : State) → read_in c (property_at s.went) ≡ true →

@@ -1,15 +1,15 @@
 -- AADL.md, section 4: the properties that are read.
-use Rattle.common.specs.Words.{ℕ, Bool, true, false, cond, ◌&&◌, List, [], ◌∷◌, eqb, ltb, get_or, set}
+use Rattle.common.specs.Words.{ℕ, Bool, false, cond, List, [], ◌∷◌, eqb, ltb, get_or, set}
 use Rattle.words.specs.Kinds.{PERIOD, DEADLINE, DISPATCH-PROTOCOL, DISPATCH-OFFSET, PRIORITY, TIMING, TIMING-PROPERTIES, THREAD-PROPERTIES}
 use Rattle.words.specs.Kinds.{COMMUNICATION-PROPERTIES, PERIODIC, DELAYED, SCOPE, BECOMES, SEMICOLON, NONE, OPEN-BRACE, CLOSE-BRACE, PROPERTIES}
 use Rattle.tokens.specs.Tokens.{Token}
 use Rattle.steps.specs.declared.Fault.{Fault}
 use Rattle.steps.specs.Faults.{fault}
-use Rattle.steps.specs.Steps.{Step, On, Stop, ◌⟫◌, head, is, named, any, the, name}
+use Rattle.steps.specs.Steps.{Step, On, ◌⟫◌, head, is, named, any, the, name}
 use Rattle.steps.specs.Lifted.{first_kind, second_kind}
 use Rattle.values.specs.Values.{value, scoped, association}
 use Rattle.phrases.specs.Phrases.{nothing}
-use Rattle.rows.specs.Said.{Said, said, Rule, quiet, ◌⨟◌, optionally, repeat}
+use Rattle.rows.specs.Said.{said, Rule, quiet, ◌⨟◌, optionally, repeat}
 use Rattle.times.specs.Times.{Formed, formed}
 use Rattle.times.specs.Sums.{time_from}
 use Rattle.times.specs.Priorities.{priority_from}

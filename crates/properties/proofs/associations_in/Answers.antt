@@ -1,0 +1,51 @@
+-- `properties::associations_in`: what is left to read says what the whole does.
+use Rattle.common.specs.Words.{rules, [], refl, ap, ◌∙◌}
+use Rattle.words.specs.Words.{is_name}
+use Rattle.steps.specs.Steps.{named}
+use Rattle.steps.specs.Laws.{kind_on, kind_off}
+use Rattle.rows.specs.States.{State, state_of}
+use Rattle.rows.specs.Laws.{advances_on, repeat_on, repeat_off, repeat_less}
+use Rattle.properties.specs.Properties.{association_in, associations_in}
+use Rattle.properties.specs.Laws.{association_in_moves}
+use Rattle.properties.proofs.associations_in.Goals as goal
+
+pub loop-r-init : goal.loop-r-init
+unfolding associations_in
+loop-r-init c = λ m. refl
+
+pub next_of-requires : goal.next_of-requires
+unfolding associations_in
+next_of-requires c = search rules
+
+pub is_name-requires : goal.is_name-requires
+unfolding associations_in
+is_name-requires c = search rules
+
+pub association_in-r-requires : goal.association_in-r-requires
+unfolding associations_in
+association_in-r-requires c = search rules
+
+pub loop-r-smaller : goal.loop-r-smaller
+unfolding associations_in
+loop-r-smaller c =
+    let k = c in let l = k in let a = l.args in let s = state_of a.text.now l.loop-r.r [] in
+    rw (ap (λ (x : State). x.went) (c.association_in-r.ensures []))
+    (repeat_less named (association_in a.of) (advances_on named (association_in a.of) (association_in_moves a.of)) s
+    (kind_on is_name s.went refl (rw (← k.next_of.ensures, ← k.is_name.ensures) c.loop-r-test.true)))
+
+pub loop-r-preserved : goal.loop-r-preserved
+unfolding associations_in
+loop-r-preserved c =
+    let k = c in let l = k in let a = l.args in
+    λ m. let s = state_of a.text.now l.loop-r.r m in
+    rw (c.association_in-r.ensures m)
+    (repeat_on named (association_in a.of) (advances_on named (association_in a.of) (association_in_moves a.of)) s
+    (kind_on is_name s.went refl (rw (← k.next_of.ensures, ← k.is_name.ensures) c.loop-r-test.true)) ∙ l.loop-r.invariant m)
+
+pub returns : goal.returns
+unfolding associations_in
+returns c =
+    let k = c in let l = k in let a = l.args in
+    λ m. let s = state_of a.text.now l.loop-r.r m in
+    repeat_off named (association_in a.of) (advances_on named (association_in a.of) (association_in_moves a.of)) s
+    (kind_off is_name s.went (rw (← k.next_of.ensures, ← k.is_name.ensures) c.loop-r-test.false)) ∙ l.loop-r.invariant m

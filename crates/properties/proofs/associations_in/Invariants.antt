@@ -1,0 +1,15 @@
+-- `properties::associations_in`: what is left to read says what the whole does.
+use Rattle.common.specs.Words.{ℕ, List, ◌≡◌}
+use Rattle.steps.specs.Steps.{named}
+use Rattle.steps.specs.Lifted.{lift, size}
+use Rattle.rows.specs.Said.{repeat}
+use Rattle.rows.specs.States.{state_of, does}
+use Rattle.properties.specs.Properties.{association_in}
+use Rattle.properties.proofs.associations_in.Given as goal
+
+abbrev pub invariant-loop-r : goal.invariant-loop-r
+invariant-loop-r l = (m : List ℕ) → does (state_of l.text l.r m) (repeat named (association_in l.of))
+    ≡ does (state_of l.text l.initial.r m) (repeat named (association_in l.of))
+
+abbrev pub decreases-loop-r : goal.decreases-loop-r
+decreases-loop-r l = size (lift l.text l.r.went)

@@ -1,0 +1,42 @@
+-- `properties::maybe_block_in`.
+use Rattle.common.specs.Words.{rules, sym, ◌∙◌, arith}
+use Rattle.words.specs.Kinds.{OPEN-BRACE}
+use Rattle.steps.specs.Steps.{is}
+use Rattle.steps.specs.Laws.{is_on, is_off}
+use Rattle.rows.specs.States.{state_of}
+use Rattle.rows.specs.Laws.{optionally_on, optionally_off}
+use Rattle.properties.specs.Properties.{block_in, maybe_block_in}
+use Rattle.properties.specs.Laws.{block_does}
+use Rattle.properties.proofs.maybe_block_in.Goals as goal
+
+pub next_of-requires : goal.next_of-requires
+unfolding maybe_block_in
+next_of-requires c = search rules
+
+pub returns-then-next_of-ne-OPEN_BRACE : goal.returns-then-next_of-ne-OPEN_BRACE
+unfolding maybe_block_in
+returns-then-next_of-ne-OPEN_BRACE c =
+    let a = c.args in
+    λ m. let s = state_of a.text.now a.reading m in optionally_off (is OPEN-BRACE) (block_in a.of) s
+    (is_off OPEN-BRACE s.went (λ e. c.if-next_of-ne-OPEN_BRACE.true (c.next_of.ensures ∙ e)))
+
+pub symbol_on-requires : goal.symbol_on-requires
+unfolding maybe_block_in
+symbol_on-requires c = search rules
+
+pub associations_in-inner-requires : goal.associations_in-inner-requires
+unfolding maybe_block_in
+associations_in-inner-requires c = search rules
+
+pub symbol_on-requires-2 : goal.symbol_on-requires-2
+unfolding maybe_block_in
+symbol_on-requires-2 c = search rules
+
+pub returns : goal.returns
+unfolding maybe_block_in
+returns c =
+    let k = c in let a = k.args in
+    λ m. let s = state_of a.text.now a.reading m in
+    rw (c.symbol_on-2.ensures m, c.associations_in-inner.ensures m, c.symbol_on.ensures m)
+    (block_does a.of s ∙ optionally_on (is OPEN-BRACE) (block_in a.of) s
+    (is_on OPEN-BRACE s.went (λ e. omega arith) (sym k.next_of.ensures ∙ k.if-next_of-ne-OPEN_BRACE.false)))

@@ -1,0 +1,27 @@
+-- `properties::skipped_in`.
+use Rattle.rows.specs.States.{state_of}
+use Rattle.properties.specs.Laws.{skipped_plain, skipped_other, skipped_noted}
+use Rattle.properties.proofs.skipped_in.Goals as goal
+
+pub returns-then-of-ne-OF_PROCESS : goal.returns-then-of-ne-OF_PROCESS
+returns-then-of-ne-OF_PROCESS c =
+    let a = c.args in
+    λ m. rw (c.on-skipped.ensures, c.association.ensures)
+    (skipped_plain a.of (state_of a.text.now a.reading m) c.if-of-ne-OF_PROCESS.true)
+
+pub returns-then-property-lt-TIMING : goal.returns-then-property-lt-TIMING
+returns-then-property-lt-TIMING c =
+    let b = c in
+    let k = b in
+    let a = k.args in
+    λ m. rw (c.noted.ensures, b.on-skipped.ensures, b.association.ensures, c.start_of.ensures)
+    (skipped_noted a.of (state_of a.text.now a.reading m) c.if-of-ne-OF_PROCESS.false
+    (rw (← k.requires) c.if-property-lt-TIMING.true))
+
+pub returns : goal.returns
+returns c =
+    let b = c in
+    let k = b in
+    let a = k.args in
+    λ m. rw (b.on-skipped.ensures, b.association.ensures) (skipped_other a.of
+    (state_of a.text.now a.reading m) (rw (← k.requires) c.if-property-lt-TIMING.false))
