@@ -8,7 +8,7 @@ ghost use Rattle.findings.specs.Findings.{number_of, rule_of, no_table};
 use plan::Plan;
 
 // Document 02's refusals, in the order of their numbers, 20 to 24.
-#[derive(Drop)]
+#[derive(Clone, Copy)]
 pub enum Rule {
     Unfit,
     Unknown,
@@ -18,7 +18,7 @@ pub enum Rule {
 }
 
 // The place is the number of bytes before the token. Why is a word for people: what was expected there, or what is wrong.
-#[derive(Drop)]
+#[derive(Clone, Copy)]
 pub struct Refusal {
     pub rule: Rule,
     pub place: usize,
@@ -26,7 +26,7 @@ pub struct Refusal {
 }
 
 // NoRoom is for memory that is too short for some text.
-#[derive(Drop)]
+#[derive(Clone, Copy)]
 pub enum Answer {
     Sound,
     Refused(Refusal),
@@ -34,7 +34,7 @@ pub enum Answer {
 }
 
 // What planning takes. Where there are more threads or queues than a plan has room for, the counts still are theirs.
-#[derive(Drop)]
+#[derive(Clone, Copy)]
 pub struct Table {
     pub tasks: usize,
     pub queues: usize,
@@ -47,7 +47,7 @@ pub struct Table {
 }
 
 // The answer, and the table: that of all zeros where there is none.
-#[derive(Drop)]
+#[derive(Clone, Copy)]
 pub struct Read {
     pub answer: Answer,
     pub table: Table,
