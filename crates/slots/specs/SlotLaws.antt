@@ -76,7 +76,7 @@ from_zeros l b e =
 -- an index that the run does not meet
 unchanged :
     (vs m : List ℕ) (at b k : ℕ) → k < 8 → (b + 8 ≤ at) ⊎ (at + length vs ≤ b) →
-        get_or (sets m at vs) (b + k) 0 ≡ get_or m (b + k) 0
+    get_or (sets m at vs) (b + k) 0 ≡ get_or m (b + k) 0
 unchanged vs m at b k h apart =
     ⊎_elim (λ (l : b + 8 ≤ at). sets_before vs m at (b + k) 0 (omega arith))
     (λ (l : at + length vs ≤ b). sets_after vs m at (b + k) 0 (omega arith)) apart
