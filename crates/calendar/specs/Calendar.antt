@@ -1,5 +1,6 @@
 -- What the calendar's functions answer: ticks, jobs, numbers and slots, passed on from Units, and a multiple up to a limit.
-use Rattle.common.specs.Words.{ℕ, ◌<◌, ◌≤◌, arith, Bool, true, false, cond, ◌≡◌, refl, leb, leb-true, leb-false}
+use Rattle.std.specs.Prelude.{◌<◌, ◌≤◌, ◌≡◌}
+use Rattle.common.specs.Words.{ℕ, arith, Bool, true, false, cond, refl, leb, leb-true, leb-false}
 use Rattle.calendar.specs.declared.Multiple.{Multiple}
 pub use Rattle.calendar.specs.Units.{tick, job, message, slot}
 

@@ -3,7 +3,7 @@
 // plain numbers. All functions are inner ones: they require what the crates above have tested.
 #![tactic(auto)]
 
-ghost use Rattle.common.specs.Words.{◌≡◌, ◌+◌, ◌<◌, ◌≤◌, ◌^◌, ◌/◌};
+ghost use Rattle.std.specs.Prelude.{◌≡◌, ◌+◌, ◌<◌, ◌≤◌, ◌^◌, ◌/◌};
 ghost use Rattle.model.specs.Model.{Queue, receiver_deadline, wanted_for, count, has_deadline, released, due, gcd, lcm};
 ghost use Rattle.calendar.specs.Calendar.{tick, job, capped};
 

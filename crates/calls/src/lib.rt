@@ -2,7 +2,8 @@
 // caller keeps its desk where it lies; whether the plan is sound is the caller's to say.
 #![tactic(auto)]
 
-ghost use Rattle.common.specs.Words.{◌≡◌, true, List, ℕ, ◌≤◌, length};
+ghost use Rattle.std.specs.Prelude.{◌≡◌, ◌≤◌};
+ghost use Rattle.common.specs.Words.{true, List, ℕ, length};
 ghost use Rattle.plan.specs.Plan.{lent_plan};
 ghost use Rattle.plan.specs.Rules.{sound_plan};
 ghost use Rattle.window.specs.Window.{Remembers};

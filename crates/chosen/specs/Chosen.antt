@@ -1,5 +1,6 @@
 -- AADL.md, section 5: which rows of a text become tasks and queues, in their order.
-use Rattle.common.specs.Words.{ℕ, zero, suc, Bool, cond, ◌&&◌, List, [], ◌∷◌, ◌++◌, eqb, ltb, length, get_or}
+use Rattle.std.specs.Prelude.{◌&&◌, ◌∷◌, ◌++◌}
+use Rattle.common.specs.Words.{ℕ, zero, suc, Bool, cond, List, [], eqb, ltb, length, get_or}
 use Rattle.common.specs.Table.{table}
 use Rattle.rows.specs.Rows.{Row, a_thread, a_link}
 use Rattle.ways.specs.Ways.{cell}

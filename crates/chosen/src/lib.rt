@@ -2,7 +2,8 @@
 // queues that `index` built.
 #![tactic(auto)]
 
-ghost use Rattle.common.specs.Words.{◌≡◌, ◌*◌, ◌<◌, ◌≤◌, ◌++◌, ◌∷◌, [], ◌&&◌, List, ℕ, eqb, length};
+ghost use Rattle.std.specs.Prelude.{◌≡◌, ◌*◌, ◌<◌, ◌≤◌, ◌++◌, ◌∷◌, ◌&&◌};
+ghost use Rattle.common.specs.Words.{[], List, ℕ, eqb, length};
 ghost use Rattle.rows.specs.Rows.{row_words, a_link};
 ghost use Rattle.index.specs.Index.{rows_in, Indexed};
 ghost use Rattle.ways.specs.Ways.{cell};

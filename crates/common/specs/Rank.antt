@@ -1,5 +1,6 @@
 -- Ranks in a finite set of rows under a strict total order: every rank below the set's size is taken. Nothing here is about queues.
-use Rattle.common.specs.Words.{ℕ, zero, suc, ◌+◌, ◌-◌, ◌<◌, ◌≤◌, arith, Bool, true, false, ⊎_elim, ◌≡◌, refl}
+use Rattle.std.specs.Prelude.{◌+◌, ◌-◌, ◌<◌, ◌≤◌, ◌≡◌}
+use Rattle.common.specs.Words.{ℕ, zero, suc, arith, Bool, true, false, ⊎_elim, refl}
 use Rattle.common.specs.Totals.{only, sum, only_le, sum_le, sum_lt}
 use Rattle.common.specs.Tests.{lt_or_le, having}
 

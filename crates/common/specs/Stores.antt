@@ -1,9 +1,12 @@
 -- A run of stores, `sets l i vs`: what it leaves at each index, in each part, and after one store more.
-use Rattle.common.specs.Words.{◌≡◌, refl, sym, ap, ◌∙◌, List, [], ◌∷◌, ◌++◌, ℕ, zero, suc, ◌+◌, ◌≤◌, ◌<◌}
+use Rattle.std.specs.Prelude.{◌≡◌, ◌∷◌, ◌++◌, ◌+◌, ◌≤◌, ◌<◌}
+use Rattle.common.specs.Words.{refl, sym, ap, ◌∙◌, List, [], ℕ, zero, suc}
 use Rattle.common.specs.Words.{add-zero, not-suc-le-zero}
-use Rattle.common.specs.Words.{le_of_suc-le-suc, add-one, arith, ◌⊎◌, ⊎_elim, length, get_or, take, drop, set, length-set, length-take}
+use Rattle.std.specs.Prelude.{◌⊎◌}
+use Rattle.common.specs.Words.{le_of_suc-le-suc, add-one, arith, ⊎_elim, length, get_or, take, drop, set, length-set, length-take}
 use Rattle.common.specs.Words.{length-drop, sets, length-sets, take-suc, length-take-le, get_or-set_same, get_or-set_other, get_or-take, get_or-drop}
-use Rattle.common.specs.Words.{ext_get_or, drop-cons, ◌-◌}
+use Rattle.std.specs.Prelude.{◌-◌}
+use Rattle.common.specs.Words.{ext_get_or, drop-cons}
 pub use Rattle.common.specs.Terms.{part}
 
 -- one run after another is one run

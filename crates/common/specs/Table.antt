@@ -1,5 +1,6 @@
 -- Laws of the list f 0, f 1, .., f (n - 1): what a loop that fills an array from the front leaves.
-use Rattle.common.specs.Words.{◌≡◌, refl, sym, ◌∙◌, List, [], ◌∷◌, ℕ, zero, suc, ◌+◌, ◌<◌, not-suc-le-zero}
+use Rattle.std.specs.Prelude.{◌≡◌, ◌∷◌, ◌+◌, ◌<◌}
+use Rattle.common.specs.Words.{refl, sym, ◌∙◌, List, [], ℕ, zero, suc, not-suc-le-zero}
 use Rattle.common.specs.Words.{le_of_suc-le-suc}
 use Rattle.common.specs.Words.{eq-or-lt_of_le, add-one, arith, ⊎_elim, length, get_or, take, set, length-append, get_or-append, take_all}
 use Rattle.common.specs.Words.{take-suc-set, get_or_at}

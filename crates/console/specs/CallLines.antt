@@ -1,5 +1,6 @@
 -- Frames 04 and 05 on the desk: a call that the code took on the desk's plan and state is the desk's turn.
-use Rattle.common.specs.Words.{ℕ, Bool, true, false, List, ◌≡◌, refl, sym, ◌∙◌}
+use Rattle.std.specs.Prelude.{◌≡◌}
+use Rattle.common.specs.Words.{ℕ, Bool, true, false, List, refl, sym, ◌∙◌}
 use Rattle.frames.specs.Frames.{frame_of, payload_in}
 use Rattle.calls.specs.CallLines.{is_call, line_call}
 use Rattle.calls.specs.Leaves.{state_of, Leaves}

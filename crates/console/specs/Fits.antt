@@ -1,5 +1,6 @@
 -- No answer of the console is longer than 64 bytes.
-use Rattle.common.specs.Words.{ℕ, ◌≤◌, arith, Bool, true, false, cond, List, ◌≡◌, refl, length, length-append}
+use Rattle.std.specs.Prelude.{◌≤◌, ◌≡◌}
+use Rattle.common.specs.Words.{ℕ, arith, Bool, true, false, cond, List, refl, length, length-append}
 use Rattle.plan.specs.Limits.{payload_bytes}
 use Rattle.mailbox.specs.Calls.{start_answer, send_answer, look}
 use Rattle.running.specs.View.{view_of}

@@ -1,5 +1,6 @@
 -- What every turn keeps of a desk: the plan that it runs is sound, so that a call on it need not test rule 7 again.
-use Rattle.common.specs.Words.{ℕ, Bool, true, false, cond, List, ◌≡◌, refl, leb, ltb, length}
+use Rattle.std.specs.Prelude.{◌≡◌}
+use Rattle.common.specs.Words.{ℕ, Bool, true, false, cond, List, refl, leb, ltb, length}
 use Rattle.common.specs.Tests.{clash}
 use Rattle.plan.specs.Limits.{task_limit, queue_limit}
 use Rattle.plan.specs.Rules.{sound_plan}

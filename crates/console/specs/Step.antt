@@ -1,5 +1,6 @@
 -- A step of the console: the turn of a line, where there is room for its answer.
-use Rattle.common.specs.Words.{ℕ, cond, List, ◌≡◌, ltb, length, sets}
+use Rattle.std.specs.Prelude.{◌≡◌}
+use Rattle.common.specs.Words.{ℕ, cond, List, ltb, length, sets}
 use Rattle.frames.specs.Answers.{longest_answer}
 use Rattle.desk.specs.Desk.{Turn, silent, line_turn}
 use Rattle.console.specs.Types.{Desk, Reply, Replied}

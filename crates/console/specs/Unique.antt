@@ -1,5 +1,6 @@
 -- The contract of a step determines its outcome.
-use Rattle.common.specs.Words.{ℕ, List, ◌≡◌, sym, ◌∙◌}
+use Rattle.std.specs.Prelude.{◌≡◌}
+use Rattle.common.specs.Words.{ℕ, List, sym, ◌∙◌}
 use Rattle.console.specs.Step.{StepGives}
 use Rattle.console.specs.Types.{Desk, Replied}
 

@@ -2,7 +2,8 @@
 // writes at most one line.
 #![tactic(auto)]
 
-ghost use Rattle.common.specs.Words.{◌≡◌, ◌≤◌, length, take};
+ghost use Rattle.std.specs.Prelude.{◌≡◌, ◌≤◌};
+ghost use Rattle.common.specs.Words.{length, take};
 ghost use Rattle.digits.specs.Hex.{most_bytes, decoded_into};
 ghost use Rattle.frames.specs.Answers.{longest_answer};
 ghost use Rattle.desk.specs.Desk.{frame_turn, framed_bytes, Takes};

@@ -1,5 +1,6 @@
 -- What lent columns allow: their rows can be divided by, and their counts fit 64 bits up to the last tick.
-use Rattle.common.specs.Words.{ℕ, ◌+◌, ◌*◌, ◌^◌, ◌<◌, ◌≤◌, arith, mul-le-mul_right, Bool, List, ⊎_elim, get_or}
+use Rattle.std.specs.Prelude.{◌+◌, ◌*◌, ◌^◌, ◌<◌, ◌≤◌}
+use Rattle.common.specs.Words.{ℕ, arith, mul-le-mul_right, Bool, List, ⊎_elim, get_or}
 use Rattle.common.specs.Tests.{lt_or_le}
 use Rattle.model.specs.Model.{up_to}
 use Rattle.model.proofs.Order.{period_pos}

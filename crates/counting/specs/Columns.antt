@@ -1,7 +1,8 @@
 -- The columns of a plan, as the functions here are lent them, and the queue that they make. The receiver is not among them, and nothing
 -- here asks for it: row 0 stands in its place. Counting does not ask for priorities either (`columns_at`, where all are 0); the order of
 -- equal deadlines does (`ordered_at`). A plan's own columns make the counts of its queue (`up_to_columns` and the laws after it).
-use Rattle.common.specs.Words.{ℕ, ◌+◌, ◌-◌, ◌*◌, ◌<◌, ◌≤◌, arith, Bool, false, List, [], ◌≡◌, refl, get_or}
+use Rattle.std.specs.Prelude.{◌+◌, ◌-◌, ◌*◌, ◌<◌, ◌≤◌, ◌≡◌}
+use Rattle.common.specs.Words.{ℕ, arith, Bool, false, List, [], refl, get_or}
 use Rattle.model.specs.Model.{Queue, Valid, due_at, precedes, up_to, followers, tick_of, sent_by, sender_of}
 use Rattle.plan.specs.Limits.{task_limit, queue_limit, longest_period}
 use Rattle.plan.specs.Plan.{queue_at, Usable}

@@ -1,6 +1,7 @@
 -- One task's count up to a tick, from its count up to a tick before: the deadlines that follow are those of a task whose first one comes
 -- so many ticks after that tick.
-use Rattle.common.specs.Words.{ℕ, ◌+◌, ◌-◌, ◌*◌, ◌/◌, ◌<◌, ◌≤◌, min, arith, ⊎_elim, ◌≡◌, ap, div-eq_of_lt-le}
+use Rattle.std.specs.Prelude.{◌+◌, ◌-◌, ◌*◌, ◌/◌, ◌<◌, ◌≤◌, ◌≡◌}
+use Rattle.common.specs.Words.{ℕ, min, arith, ⊎_elim, ap, div-eq_of_lt-le}
 use Rattle.common.specs.Tests.{lt_or_le}
 use Rattle.common.specs.Totals.{eq_by}
 use Rattle.model.specs.Model.{count}

@@ -1,6 +1,7 @@
 -- Equation 2 row by row: where a row that goes after row i among equal deadlines counts only up to the tick before, the sum leaves out
 -- the followers, and is the number. `b` is the tick before the deadline of row i's message.
-use Rattle.common.specs.Words.{ℕ, ◌+◌, ◌<◌, ◌≤◌, arith, add-one, Bool, true, false, cond, ◌&&◌, ◌≡◌, refl, sym, ◌∙◌}
+use Rattle.std.specs.Prelude.{◌+◌, ◌<◌, ◌≤◌, ◌&&◌, ◌≡◌}
+use Rattle.common.specs.Words.{ℕ, arith, add-one, Bool, true, false, cond, refl, sym, ◌∙◌}
 use Rattle.common.specs.Totals.{only, only_zero, sum, sum_add, sum_ext}
 use Rattle.model.specs.Model.{Queue, Valid, count, has_deadline, due_at, precedes, row_up_to, row_followers, up_to, followers}
 use Rattle.model.proofs.Count.{count_step}

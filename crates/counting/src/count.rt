@@ -1,5 +1,6 @@
 // Equation 1: the messages of a queue with deadlines up to a tick, and up to each of two ticks at once.
-ghost use Rattle.common.specs.Words.{◌≡◌, ◌+◌, ◌-◌, ◌*◌, ◌^◌, ◌<◌, ◌≤◌, min};
+ghost use Rattle.std.specs.Prelude.{◌≡◌, ◌+◌, ◌-◌, ◌*◌, ◌^◌, ◌<◌, ◌≤◌};
+ghost use Rattle.common.specs.Words.{min};
 ghost use Rattle.model.specs.Model.{count, up_to};
 ghost use Rattle.plan.specs.Limits.{last_tick};
 ghost use Rattle.counting.specs.Columns.{columns_at, Lent};

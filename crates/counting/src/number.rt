@@ -1,6 +1,7 @@
 // Equation 2: the number of a task's message with its deadline at a tick. It is the sum over the rows of the messages with deadlines up to
 // the tick, but only up to the tick before for a row that goes after the task among equal deadlines: so no row's remainder is needed.
-ghost use Rattle.common.specs.Words.{◌≡◌, cond, ◌+◌, ◌<◌, ◌≤◌};
+ghost use Rattle.std.specs.Prelude.{◌≡◌, ◌+◌, ◌<◌, ◌≤◌};
+ghost use Rattle.common.specs.Words.{cond};
 ghost use Rattle.common.specs.Totals.{only};
 ghost use Rattle.model.specs.Model.{Queue, precedes};
 ghost use Rattle.calendar.specs.Calendar.{message};

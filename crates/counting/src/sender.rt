@@ -1,6 +1,7 @@
 // The way back from a number: halving finds the deadline, the least tick with so many messages up to it, and the row that is due there
 // and has the number is the sender.
-ghost use Rattle.common.specs.Words.{◌≡◌, not, ◌&&◌, ◌<◌, ◌≤◌};
+ghost use Rattle.std.specs.Prelude.{◌≡◌, ◌&&◌, ◌<◌, ◌≤◌};
+ghost use Rattle.common.specs.Words.{not};
 ghost use Rattle.common.specs.Terms.{first_bad};
 ghost use Rattle.model.specs.Model.{up_to, has_deadline, tick_of, sent_by};
 ghost use Rattle.calendar.specs.Calendar.{tick};

@@ -1,5 +1,6 @@
 -- Laws of declarations: what the code does one after another is what the rules say, and how far they go.
-use Rattle.common.specs.Words.{ℕ, ◌+◌, arith, Bool, true, false, cond, List, ◌≡◌, refl, sym, ap, ◌∙◌}
+use Rattle.std.specs.Prelude.{◌+◌, ◌≡◌}
+use Rattle.common.specs.Words.{ℕ, arith, Bool, true, false, cond, List, refl, sym, ap, ◌∙◌}
 use Rattle.words.specs.Kinds.{ENDED, THREAD, PROCESS, IMPLEMENTATION, EXTENDS, END, DOT, SEMICOLON}
 use Rattle.tokens.specs.Tokens.{Token}
 use Rattle.steps.specs.Steps.{Step, On, Stop, ◌⟫◌, head, is, the, name, own}
@@ -123,7 +124,7 @@ module _ (s : State) where
       ∙ does_at s (λ ps ts. implementation PROCESS a_process p ps ts ⨟ put (λ qs. process_row p))
       (λ us ps ts. implementation PROCESS a_process (head us).start ps ts ⨟ put (λ qs. process_row (head us).start))
       (λ ts w. ap {B = Rule} (λ (q : ℕ) (ps : List ℕ) (us : List Token). implementation PROCESS a_process q ps us ⨟ put
-          (λ qs. process_row q))
+      (λ qs. process_row q))
       (x ∙ ap (λ (u : Step). (first u).start) w))
 
 -- ## How far they go

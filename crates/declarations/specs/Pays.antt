@@ -1,5 +1,6 @@
 -- Declarations are paid for by their text, with what stands in their sections.
-use Rattle.common.specs.Words.{ℕ, arith, ◌≡◌, eqb}
+use Rattle.std.specs.Prelude.{◌≡◌}
+use Rattle.common.specs.Words.{ℕ, arith, eqb}
 use Rattle.words.specs.Kinds.{ENDED, THREAD, PROCESS, FEATURES, SUBCOMPONENTS, PROPERTIES}
 use Rattle.tokens.specs.Laws.{cases}
 use Rattle.steps.specs.Steps.{On, head, next, is, any, the}

@@ -1,7 +1,8 @@
 // Thread types, thread implementations and process implementations, with their sections.
 #![tactic(auto)]
 
-ghost use Rattle.common.specs.Words.{◌≡◌, ℕ, List};
+ghost use Rattle.std.specs.Prelude.{◌≡◌};
+ghost use Rattle.common.specs.Words.{ℕ, List};
 ghost use Rattle.tokens.specs.Tokens.{from};
 ghost use Rattle.steps.specs.Steps.{◌⟫◌, head};
 ghost use Rattle.steps.specs.Lifted.{lift};

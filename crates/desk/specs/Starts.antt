@@ -1,5 +1,6 @@
 -- Frame 03 as the code takes it: planning decides, and then the start; and what a started plan allows.
-use Rattle.common.specs.Words.{ℕ, ◌≤◌, arith, true, false, List, ◌⊎◌, inl, inr, ◌≡◌, sym, ap, ◌∙◌, not-false}
+use Rattle.std.specs.Prelude.{◌≤◌, ◌⊎◌, ◌≡◌}
+use Rattle.common.specs.Words.{ℕ, arith, true, false, List, inl, inr, sym, ap, ◌∙◌, not-false}
 use Rattle.plan.specs.Limits.{queue_limit}
 use Rattle.plan.specs.Rules.{sound_plan}
 use Rattle.plan.specs.Sound.{sound_iff}

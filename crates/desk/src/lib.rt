@@ -5,7 +5,8 @@
 mod squares; // squares.rt: which task sends into which queue, from the sender masks
 mod table; // table.rt: frames 01 to 03, until a plan is accepted
 
-ghost use Rattle.common.specs.Words.{◌≡◌, List, ℕ, ◌≤◌, length};
+ghost use Rattle.std.specs.Prelude.{◌≡◌, ◌≤◌};
+ghost use Rattle.common.specs.Words.{List, ℕ, length};
 ghost use Rattle.frames.specs.Answers.{longest_answer};
 ghost use Rattle.desk.specs.Desk.{new_desk, bad, with_state, table_turn, Takes};
 

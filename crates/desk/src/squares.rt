@@ -1,5 +1,5 @@
 // The square of yes and no from the sender masks.
-ghost use Rattle.common.specs.Words.{◌≡◌};
+ghost use Rattle.std.specs.Prelude.{◌≡◌};
 ghost use Rattle.desk.specs.Desk.{row_of, square_of};
 
 use plan::Plan;

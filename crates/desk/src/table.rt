@@ -1,5 +1,6 @@
 // Frames 01 to 03: the rows of the table, and the plan that is made of them and started.
-ghost use Rattle.common.specs.Words.{◌≡◌, List, ℕ, ◌≤◌, leb, length};
+ghost use Rattle.std.specs.Prelude.{◌≡◌, ◌≤◌};
+ghost use Rattle.common.specs.Words.{List, ℕ, leb, length};
 ghost use Rattle.frames.specs.Answers.{longest_answer, refusal_bytes};
 ghost use Rattle.mailbox.specs.Calls.{start_answer};
 ghost use Rattle.desk.specs.Turns.{takes_row};

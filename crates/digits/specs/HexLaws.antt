@@ -1,8 +1,11 @@
 -- Laws of digits: a line of whole pairs, the buffer after decoding, and how many digits bytes take.
 use Rattle.std.specs.Prelude.{bit_or}
-use Rattle.common.specs.Words.{ℕ, zero, suc, ◌+◌, ◌*◌, ◌/◌, ◌%◌, ◌^◌, ◌<◌, ◌≤◌, arith, add-one, Bool, true, false}
-use Rattle.common.specs.Words.{cond, ◌&&◌}
-use Rattle.common.specs.Words.{List, [], ◌∷◌, ◌++◌, inl, inr, ◌⊎◌, ◌≡◌, refl, sym, ap, subst, ◌∙◌, leb, ltb, length}
+use Rattle.std.specs.Prelude.{◌+◌, ◌*◌, ◌/◌, ◌%◌, ◌^◌, ◌<◌, ◌≤◌}
+use Rattle.common.specs.Words.{ℕ, zero, suc, arith, add-one, Bool, true, false}
+use Rattle.std.specs.Prelude.{◌&&◌}
+use Rattle.common.specs.Words.{cond}
+use Rattle.std.specs.Prelude.{◌∷◌, ◌++◌, ◌⊎◌, ◌≡◌}
+use Rattle.common.specs.Words.{List, [], inl, inr, refl, sym, ap, subst, ◌∙◌, leb, ltb, length}
 use Rattle.common.specs.Words.{get_or, take, set, sets}
 use Rattle.common.specs.Words.{length-sets, length-take-le, take-suc, lt-ltb, le-ltb, le-leb, lt-leb, eq-eqb, ne_eqb}
 use Rattle.common.specs.Words.{ltb-true, leb-true, eqb-true}

@@ -1,5 +1,6 @@
 -- "numbers high byte first": the number that so many bytes make, and a number in so many bytes. Both go by the number's width in bytes.
-use Rattle.common.specs.Words.{ℕ, zero, suc, ◌+◌, ◌*◌, ◌/◌, ◌%◌, List, [], ◌∷◌, ◌++◌, get_or}
+use Rattle.std.specs.Prelude.{◌+◌, ◌*◌, ◌/◌, ◌%◌, ◌∷◌, ◌++◌}
+use Rattle.common.specs.Words.{ℕ, zero, suc, List, [], get_or}
 
 -- the number of the `width` bytes from index `at` on
 unfoldable pub value_at : List ℕ → ℕ → ℕ → ℕ

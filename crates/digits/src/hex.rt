@@ -1,5 +1,6 @@
 // Lower-case hexadecimal: the digits of a line as bytes, and bytes as digits.
-ghost use Rattle.common.specs.Words.{◌≡◌, [], ◌∷◌, ◌+◌, ◌*◌, ◌%◌, ◌≤◌, ◌<◌, length, sets};
+ghost use Rattle.std.specs.Prelude.{◌≡◌, ◌∷◌, ◌+◌, ◌*◌, ◌%◌, ◌≤◌, ◌<◌};
+ghost use Rattle.common.specs.Words.{[], length, sets};
 ghost use Rattle.common.specs.Terms.{every};
 ghost use Rattle.common.specs.Table.{table};
 ghost use Rattle.digits.specs.Hex.{digit, most_bytes, pair_at, stored_at, decoded_of, decoded_into, letter, digits};

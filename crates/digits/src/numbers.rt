@@ -1,5 +1,6 @@
 // Numbers in bytes, high byte first, of any width up to six bytes.
-ghost use Rattle.common.specs.Words.{◌≡◌, ◌+◌, ◌-◌, ◌*◌, ◌%◌, ◌^◌, ◌≤◌, ◌<◌, length, sets};
+ghost use Rattle.std.specs.Prelude.{◌≡◌, ◌+◌, ◌-◌, ◌*◌, ◌%◌, ◌^◌, ◌≤◌, ◌<◌};
+ghost use Rattle.common.specs.Words.{length, sets};
 ghost use Rattle.digits.specs.Hex.{digits};
 ghost use Rattle.digits.specs.Numbers.{value_at, in_bytes};
 ghost use Rattle.digits.specs.NumberLaws.{widest};

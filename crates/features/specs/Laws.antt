@@ -1,5 +1,6 @@
 -- Laws of features: what the code does one after another is what the rules say, and how far they go.
-use Rattle.common.specs.Words.{ℕ, arith, Bool, true, false, cond, List, ◌≡◌, refl, sym, ap, ◌∙◌, eqb, eq-eqb, ne_eqb}
+use Rattle.std.specs.Prelude.{◌≡◌}
+use Rattle.common.specs.Words.{ℕ, arith, Bool, true, false, cond, List, refl, sym, ap, ◌∙◌, eqb, eq-eqb, ne_eqb}
 use Rattle.words.specs.Kinds.{ENDED, IN, OUT, SEMICOLON}
 use Rattle.tokens.specs.Tokens.{Token}
 use Rattle.tokens.specs.Laws.{cases}
@@ -41,16 +42,16 @@ head_then (Stop f) = refl
 module _ (o n : ℕ) (s : State) where
   pub port_does : (d : ℕ) → d ≡ direction_of s.went →
       does (does (does (does s (quiet port_head)) (maybe_block_in of_port)) (quiet (the SEMICOLON))) (put (λ qs. port_row o n d qs))
-          ≡ does s (port o n)
+      ≡ does s (port o n)
   unfolding port
   port_does d e =
       ap (λ (t : State). does (does t (quiet (the SEMICOLON))) (put (λ qs. port_row o n d qs)))
-          (does_then s (quiet port_head) (maybe_block_in of_port))
+      (does_then s (quiet port_head) (maybe_block_in of_port))
       ∙ ap (λ (t : State). does t (put (λ qs. port_row o n d qs)))
       (does_then s (λ ps ts. quiet port_head ps ts ⨟ maybe_block_in of_port) (quiet (the SEMICOLON)))
       ∙ does_then_at s (λ ps ts. quiet port_head ps ts ⨟ maybe_block_in of_port ⨟ quiet (the SEMICOLON)) (put (λ qs. port_row o n d qs))
       (λ ts. put (λ qs. port_row o n (direction_of (On ts)) qs))
-          (λ ts w. ap (λ (x : ℕ). put (λ qs. port_row o n x qs)) (e ∙ ap direction_of w))
+      (λ ts w. ap (λ (x : ℕ). put (λ qs. port_row o n x qs)) (e ∙ ap direction_of w))
 
   pub other_does : other_feature (first_kind s.went) ≡ true → does s (quiet word_and_rest) ≡ does s (feature_of o n)
   unfolding feature_of other_feature

@@ -1,5 +1,6 @@
 -- Answering lines one after another. The desk and the memory together are the console, which answers a line and is changed by it.
-use Rattle.common.specs.Words.{ℕ, List, [], ◌∷◌, ◌++◌, append_assoc, ◌≡◌, refl, sym, ap, ◌∙◌}
+use Rattle.std.specs.Prelude.{◌∷◌, ◌++◌, ◌≡◌}
+use Rattle.common.specs.Words.{ℕ, List, [], append_assoc, refl, sym, ap, ◌∙◌}
 use Rattle.desk.specs.declared.Desk.{Desk}
 use Rattle.desk.specs.Desk.{line_turn}
 

@@ -1,5 +1,6 @@
 -- Feeding a block: the lines that end in it are answered one after another, until the block is used up or the room for answers is short.
-use Rattle.common.specs.Words.{ℕ, ◌+◌, ◌-◌, cond, List, [], ◌∷◌, ◌++◌, ◌≡◌, eqb, ltb, length}
+use Rattle.std.specs.Prelude.{◌+◌, ◌-◌, ◌∷◌, ◌++◌, ◌≡◌}
+use Rattle.common.specs.Words.{ℕ, cond, List, [], eqb, ltb, length}
 use Rattle.frames.specs.Answers.{longest_answer}
 use Rattle.lines.specs.Lines.{line_feed, cut, fed}
 use Rattle.feed.specs.Answers.{Console, next, reply, console_after, answers_to}

@@ -1,6 +1,8 @@
 -- Feeding line by line, as the code goes; and what feeding means: the lines of the part that was used are answered one after another.
-use Rattle.common.specs.Words.{ℕ, suc, ◌+◌, ◌-◌, ◌<◌, ◌≤◌, arith, Bool, true, false, List, [], ◌∷◌, ◌++◌, append_assoc}
-use Rattle.common.specs.Words.{append-nil, ◌≡◌}
+use Rattle.std.specs.Prelude.{◌+◌, ◌-◌, ◌<◌, ◌≤◌, ◌∷◌, ◌++◌}
+use Rattle.common.specs.Words.{ℕ, suc, arith, Bool, true, false, List, [], append_assoc}
+use Rattle.std.specs.Prelude.{◌≡◌}
+use Rattle.common.specs.Words.{append-nil}
 use Rattle.common.specs.Words.{refl, ap}
 use Rattle.common.specs.Words.{◌∙◌, eqb, length, take, drop}
 use Rattle.lines.specs.Lines.{line_feed, cut}

@@ -1,5 +1,6 @@
 -- The turns of the code's loop: what is done, and what is left to be done, make the whole.
-use Rattle.common.specs.Words.{ℕ, suc, ◌+◌, ◌-◌, ◌<◌, ◌≤◌, arith, zero-add, List, [], ◌++◌, append-nil, ◌≡◌, refl, sym}
+use Rattle.std.specs.Prelude.{◌+◌, ◌-◌, ◌<◌, ◌≤◌, ◌++◌, ◌≡◌}
+use Rattle.common.specs.Words.{ℕ, suc, arith, zero-add, List, [], append-nil, refl, sym}
 use Rattle.common.specs.Words.{ap, ◌∙◌, length}
 use Rattle.common.specs.Words.{take, drop}
 use Rattle.common.specs.Words.{length-take, length-drop, length-append, sets, length-sets, sets-eq, length-take-le, take_at, drop-drop, lt-ltb}

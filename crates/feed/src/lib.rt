@@ -6,7 +6,8 @@
 // remembers the window that a receive looked into for the next one.
 #![tactic(auto)]
 
-ghost use Rattle.common.specs.Words.{◌≡◌, ◌++◌, ◌-◌, ◌≤◌, length, take};
+ghost use Rattle.std.specs.Prelude.{◌≡◌, ◌++◌, ◌-◌, ◌≤◌};
+ghost use Rattle.common.specs.Words.{length, take};
 ghost use Rattle.common.specs.Stores.{part};
 ghost use Rattle.digits.specs.Hex.{most_bytes};
 ghost use Rattle.desk.specs.Desk.{SoundDesk, with_state};

@@ -2,7 +2,7 @@
 // with a finding, in planning, in lines or in words, does not reach the reader.
 #![tactic(auto)]
 
-ghost use Rattle.common.specs.Words.{◌≡◌};
+ghost use Rattle.std.specs.Prelude.{◌≡◌};
 ghost use Rattle.findings.specs.Findings.{number_of, rule_of, no_table};
 
 use plan::Plan;

@@ -1,5 +1,6 @@
 -- The lines that the console answers with: each answer's bytes, as lower-case digits with a line feed behind them.
-use Rattle.common.specs.Words.{ℕ, zero, suc, List, [], ◌∷◌, ◌++◌, get_or}
+use Rattle.std.specs.Prelude.{◌∷◌, ◌++◌}
+use Rattle.common.specs.Words.{ℕ, zero, suc, List, [], get_or}
 use Rattle.plan.specs.Refusals.{number_of}
 use Rattle.plan.specs.declared.refusal.Refusal.{Refusal}
 use Rattle.digits.specs.Hex.{digits}

@@ -1,5 +1,6 @@
 -- The frames that the console reads, "one frame a line, numbers high byte first". A frame is known by its first byte and its length.
-use Rattle.common.specs.Words.{ℕ, ◌+◌, Bool, cond, ◌||◌, List, ◌≡◌, ltb, eqb, length, get_or, drop}
+use Rattle.std.specs.Prelude.{◌+◌, ◌||◌, ◌≡◌}
+use Rattle.common.specs.Words.{ℕ, Bool, cond, List, ltb, eqb, length, get_or, drop}
 use Rattle.std.specs.Borrow.{Bor}
 use Rattle.calendar.specs.Calendar.{tick}
 use Rattle.digits.specs.Numbers.{value_at}

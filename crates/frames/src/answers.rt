@@ -1,5 +1,6 @@
 // The lines that the console writes: each function puts one line at the start of `out` and says how many bytes it wrote.
-ghost use Rattle.common.specs.Words.{◌≡◌, [], ◌∷◌, ◌+◌, ◌≤◌, length, sets};
+ghost use Rattle.std.specs.Prelude.{◌≡◌, ◌∷◌, ◌+◌, ◌≤◌};
+ghost use Rattle.common.specs.Words.{[], length, sets};
 ghost use Rattle.plan.specs.Limits.{queue_limit, payload_bytes};
 ghost use Rattle.digits.specs.Hex.{digits};
 ghost use Rattle.frames.specs.Answers.{longest_answer, each_size, sizes_bytes, stored_bytes, message_bytes, gap_bytes, empty_bytes, refusal_bytes};

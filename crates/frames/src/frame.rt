@@ -1,5 +1,6 @@
 // The frames that the console reads: a first byte that says which, and numbers of fixed widths behind it.
-ghost use Rattle.common.specs.Words.{◌≡◌, get_or};
+ghost use Rattle.std.specs.Prelude.{◌≡◌};
+ghost use Rattle.common.specs.Words.{get_or};
 ghost use Rattle.frames.specs.Frames.{task_length, task_in, queue_in, go_in, send_in, receive_in, frame_of, PayloadGives};
 
 use calendar::Tick;

@@ -1,6 +1,8 @@
 -- A receive, by its answer: what each of the four kinds says of the state and the memory before it.
-use Rattle.common.specs.Words.{ℕ, zero, suc, ◌+◌, ◌/◌, ◌≤◌, ◌<◌, arith, div-mul-le_self, Bool, true, false, List, ◌⊎◌, inl}
-use Rattle.common.specs.Words.{inr, ◌≡◌, refl}
+use Rattle.std.specs.Prelude.{◌+◌, ◌/◌, ◌≤◌, ◌<◌, ◌⊎◌}
+use Rattle.common.specs.Words.{ℕ, zero, suc, arith, div-mul-le_self, Bool, true, false, List, inl}
+use Rattle.std.specs.Prelude.{◌≡◌}
+use Rattle.common.specs.Words.{inr, refl}
 use Rattle.common.specs.Words.{sym}
 use Rattle.common.specs.Words.{subst, ◌∙◌, eqb, length, eqb-true, eqb-false, eq-eqb, le-leb}
 use Rattle.common.specs.Tests.{lt_or_le}

@@ -1,6 +1,7 @@
 -- The theorems speak of something: document 01's Table A is such a plan, a start on it is accepted, with 8 slots instead of 9 it loses
 -- a message, and document 01's session is a history of it that tells a message and two gaps and reads a window to its end.
-use Rattle.common.specs.Words.{ℕ, arith, true, false, List, [], ◌∷◌, inl, inr, ◌≡◌, refl, ◌∙◌, replicate}
+use Rattle.std.specs.Prelude.{◌∷◌, ◌≡◌}
+use Rattle.common.specs.Words.{ℕ, arith, true, false, List, [], inl, inr, refl, ◌∙◌, replicate}
 use Rattle.common.specs.Totals.{sum, most}
 use Rattle.common.proofs.Rows.{every, some, first_bad}
 use Rattle.calendar.specs.Calendar.{message, slot}

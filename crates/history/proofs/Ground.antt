@@ -1,8 +1,10 @@
 -- What the proofs need of a plan: that its queues are valid and their slots lie side by side, that each size is fit, and what follows
 -- for slots, cells of the state and numbers. It leans on the model's laws; a plan that planning makes is such a plan (`made_fits`).
-use Rattle.common.specs.Words.{ℕ, suc, ◌+◌, ◌-◌, ◌*◌, ◌/◌, ◌%◌, ◌≤◌, ◌<◌, ◌^◌, arith, mod-lt, mul-le-mul_right}
+use Rattle.std.specs.Prelude.{◌+◌, ◌-◌, ◌*◌, ◌/◌, ◌%◌, ◌≤◌, ◌<◌, ◌^◌}
+use Rattle.common.specs.Words.{ℕ, suc, arith, mod-lt, mul-le-mul_right}
 use Rattle.common.specs.Words.{div-add-mod', div-lt_iff_lt-mul}
-use Rattle.common.specs.Words.{lt-div-mul-add, ⊎_elim, ◌≡◌}
+use Rattle.std.specs.Prelude.{◌≡◌}
+use Rattle.common.specs.Words.{lt-div-mul-add, ⊎_elim}
 use Rattle.common.specs.Tests.{lt_or_le}
 use Rattle.model.specs.Model.{Queue, Valid, Sender, release_of, deadline_of, number}
 use Rattle.model.specs.Source.{Fit, outdated_at}
@@ -70,7 +72,7 @@ module _ {p : Plan} (sound : Sound p) where
   pub slot_waits : (q : ℕ) → q < p.queues → Fit (queue_at p q) (size_at p q) → (i k j l : ℕ) → Sender (queue_at p q) i →
       Sender (queue_at p q) j →
       number (queue_at p q) i k < number (queue_at p q) j l →
-          number (queue_at p q) i k % size_at p q ≡ number (queue_at p q) j l % size_at p q →
+      number (queue_at p q) i k % size_at p q ≡ number (queue_at p q) j l % size_at p q →
       outdated_at (queue_at p q) (deadline_of (queue_at p q) i k) ≤ release_of (queue_at p q) j l
   slot_waits q h fit i k j l si sj less e =
       let Q : Queue = queue_at p q in

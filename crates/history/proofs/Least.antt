@@ -1,8 +1,10 @@
 -- No smaller size does: where a message's slot is asked for again before it is outdated, a history of accepted calls loses the message.
 -- The message is sent, then the one that takes its slot, and then its receiving job reads up to it.
-use Rattle.common.specs.Words.{ℕ, zero, suc, ◌+◌, ◌-◌, ◌*◌, ◌%◌, ◌≤◌, ◌<◌, max, arith, le_refl, add-mod_right}
+use Rattle.std.specs.Prelude.{◌+◌, ◌-◌, ◌*◌, ◌%◌, ◌≤◌, ◌<◌}
+use Rattle.common.specs.Words.{ℕ, zero, suc, max, arith, le_refl, add-mod_right}
 use Rattle.common.specs.Words.{div-eq_of_lt-le, div-mul-le_self}
-use Rattle.common.specs.Words.{mul-le-mul_right, ℕ_discrete, List, inl, inr, ⊎_elim, ◌≡◌, refl, sym, ap, subst, ◌∙◌, length, get_or}
+use Rattle.std.specs.Prelude.{◌≡◌}
+use Rattle.common.specs.Words.{mul-le-mul_right, ℕ_discrete, List, inl, inr, ⊎_elim, refl, sym, ap, subst, ◌∙◌, length, get_or}
 use Rattle.common.specs.Words.{set}
 use Rattle.common.specs.Words.{replicate}
 use Rattle.common.specs.Words.{length-replicate, get_or-replicate, get_or-set_same, get_or-set_other, ne_eqb}

@@ -1,5 +1,6 @@
 -- Histories and lists of calls are the same thing: each list is a history, and each history comes from a list.
-use Rattle.common.specs.Words.{List, [], ◌∷◌, ◌++◌, ◌≡◌, refl, ap, ◌∙◌}
+use Rattle.std.specs.Prelude.{◌∷◌, ◌++◌, ◌≡◌}
+use Rattle.common.specs.Words.{List, [], refl, ap, ◌∙◌}
 use Rattle.history.specs.History.{Call, History, start, ◌then◌, ◌⊑◌, same, more, go_on, history}
 
 pub go_on_append : (H : History) (cs ds : List Call) → go_on H (cs ++ ds) ≡ go_on (go_on H cs) ds

@@ -1,5 +1,6 @@
 -- What the theorems ask of a plan is that planning made it (`Made` of planning). Here is what the proofs take from that.
-use Rattle.common.specs.Words.{ℕ, ◌*◌, ◌≤◌, ◌<◌, arith, true, List, ◌≡◌, sym, subst, length, replicate, length-replicate}
+use Rattle.std.specs.Prelude.{◌*◌, ◌≤◌, ◌<◌, ◌≡◌}
+use Rattle.common.specs.Words.{ℕ, arith, true, List, sym, subst, length, replicate, length-replicate}
 use Rattle.common.specs.Words.{le-ltb}
 use Rattle.model.proofs.Slots.{slots_fit}
 use Rattle.plan.specs.Limits.{payload_bytes, slot_bytes}
@@ -25,9 +26,13 @@ pub blank_begins : (p : Plan) → sound_plan p ≡ true → Begins p (blank p)
 unfolding start_answer
 blank_begins p sound =
     record {
-      ready = passed_good (start_lines p (blank p)) Started.Refused Started.Ready
-          (rw sound, (le-ltb (length (blank p)) (slots_of p * slot_bytes) (omega (arith, length-replicate {A = ℕ} (slots_of p * slot_bytes) 0)),
-              tt));
+      ready = passed_good (start_lines p (blank p)) Started.Refused Started.Ready (
+        rw sound,
+        (
+          le-ltb (length (blank p)) (slots_of p * slot_bytes) (omega (arith, length-replicate {A = ℕ} (slots_of p * slot_bytes) 0)),
+          tt,
+        ),
+      );
     }
 
 module _ {p : Plan} (made : Made p) where

@@ -1,9 +1,11 @@
 -- What each receiving job has read after every history: the first numbers of its window, one after the other.
 -- It leans on the view of one call and on the laws of windows; fit sizes play no part.
-use Rattle.common.specs.Words.{ℕ, zero, suc, ◌+◌, ◌-◌, ◌/◌, ◌≤◌, ◌<◌, max, arith, le_refl, zero-add, add-zero, suc-add}
+use Rattle.std.specs.Prelude.{◌+◌, ◌-◌, ◌/◌, ◌≤◌, ◌<◌}
+use Rattle.common.specs.Words.{ℕ, zero, suc, max, arith, le_refl, zero-add, add-zero, suc-add}
 use Rattle.common.specs.Words.{add-suc, ℕ_discrete}
 use Rattle.common.specs.Words.{Bool}
-use Rattle.common.specs.Words.{true, false, cond, ◌&&◌, List, [], ◌∷◌, ◌++◌, append-nil, ◌≡◌, refl, sym, ap, subst, ◌∙◌}
+use Rattle.std.specs.Prelude.{◌&&◌, ◌∷◌, ◌++◌, ◌≡◌}
+use Rattle.common.specs.Words.{true, false, cond, List, [], append-nil, refl, sym, ap, subst, ◌∙◌}
 use Rattle.common.specs.Words.{eqb, length, get_or}
 use Rattle.common.specs.Words.{length-append, get_or-replicate, get_or-set_same, get_or-set_other, eq-eqb, ne_eqb}
 use Rattle.calendar.specs.Calendar.{message, slot}

@@ -1,7 +1,10 @@
 -- What a receive's answer says of the calls before it and after it. `Theorems` states what comes of it.
-use Rattle.common.specs.Words.{ℕ, suc, ◌+◌, ◌-◌, ◌*◌, ◌/◌, ◌≤◌, ◌<◌, arith, le_refl, div-mul-le_self, ℕ_discrete, List}
-use Rattle.common.specs.Words.{◌++◌, inl, inr}
-use Rattle.common.specs.Words.{◌≡◌, refl}
+use Rattle.std.specs.Prelude.{◌+◌, ◌-◌, ◌*◌, ◌/◌, ◌≤◌, ◌<◌}
+use Rattle.common.specs.Words.{ℕ, suc, arith, le_refl, div-mul-le_self, ℕ_discrete, List}
+use Rattle.std.specs.Prelude.{◌++◌}
+use Rattle.common.specs.Words.{inl, inr}
+use Rattle.std.specs.Prelude.{◌≡◌}
+use Rattle.common.specs.Words.{refl}
 use Rattle.common.specs.Words.{sym, ap, subst, ◌∙◌, length, get_or, set, get_or-set_same, get_or-set_other}
 use Rattle.std.proofs.Math.Arith.{lt_of_le-ne}
 use Rattle.common.specs.Tests.{having}
@@ -153,12 +156,12 @@ module _ {p : Plan} {m : List ℕ} (sound : Sound p) (begins : Begins p m) where
 
   pub gap_names_sender : (H : History) (q t n row : ℕ) → receive_says p (world p m H) q t ≡ Received.Gap (message n) row →
       (row ≡ sender_of (queue_at p q) last_tick n) × Sender (queue_at p q) row
-          × (number (queue_at p q) row (job_of (queue_at p q) last_tick n) ≡ n)
+      × (number (queue_at p q) row (job_of (queue_at p q) last_tick n) ≡ n)
   gap_names_sender H q t n row e = go (answered_so p (world p m H) q t (Received.Gap (message n) row) e)
     where
       go : {n row : ℕ} → Answered p (world p m H) q t (Received.Gap (message n) row) →
           (row ≡ sender_of (queue_at p q) last_tick n) × Sender (queue_at p q) row
-              × (number (queue_at p q) row (job_of (queue_at p q) last_tick n) ≡ n)
+          × (number (queue_at p q) row (job_of (queue_at p q) last_tick n) ≡ n)
       go (missing h l d) =
           having (told_sender (world p m H) q t (next p (world p m H) q t) (told (missing h l d) of_gap)) (λ y. (refl, y.0, y.1))
 

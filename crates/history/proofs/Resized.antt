@@ -1,5 +1,6 @@
 -- A plan with another size for one queue is sound where the new size is at least 1 and no greater than the old one.
-use Rattle.common.specs.Words.{ℕ, ◌≤◌, ◌<◌, arith, ℕ_discrete, ◌≡◌, refl, sym, ◌∙◌, ltb, lt-ltb, eq-eqb, ne_eqb}
+use Rattle.std.specs.Prelude.{◌≤◌, ◌<◌, ◌≡◌}
+use Rattle.common.specs.Words.{ℕ, arith, ℕ_discrete, refl, sym, ◌∙◌, ltb, lt-ltb, eq-eqb, ne_eqb}
 use Rattle.common.specs.Table.{table_at}
 use Rattle.common.specs.Totals.{only, sum, sum_ext, sum_le}
 use Rattle.plan.specs.Limits.{queue_limit}

@@ -1,9 +1,12 @@
 -- What a job reads is settled by what was sent: a job that read to its end has read each number of its window once, a message exactly where
 -- one was sent, with its bytes. So two histories with the same sends give it the same readings.
-use Rattle.common.specs.Words.{ℕ, zero, suc, ◌+◌, ◌-◌, ◌≤◌, ◌<◌, arith, le_refl, ℕ_discrete, Bool, true, false, cond, ◌&&◌}
-use Rattle.common.specs.Words.{List, [], ◌∷◌}
-use Rattle.common.specs.Words.{◌++◌}
-use Rattle.common.specs.Words.{inl, inr, ◌↔◌, ◌≡◌, refl, sym, ap, subst, ◌∙◌, eqb, length, length-append, eqb-true, eq-eqb}
+use Rattle.std.specs.Prelude.{◌+◌, ◌-◌, ◌≤◌, ◌<◌, ◌&&◌}
+use Rattle.common.specs.Words.{ℕ, zero, suc, arith, le_refl, ℕ_discrete, Bool, true, false, cond}
+use Rattle.std.specs.Prelude.{◌∷◌}
+use Rattle.common.specs.Words.{List, []}
+use Rattle.std.specs.Prelude.{◌++◌}
+use Rattle.std.specs.Prelude.{◌↔◌, ◌≡◌}
+use Rattle.common.specs.Words.{inl, inr, refl, sym, ap, subst, ◌∙◌, eqb, length, length-append, eqb-true, eq-eqb}
 use Rattle.calendar.specs.Calendar.{message, slot}
 use Rattle.model.specs.Model.{Queue, first, last, sender_of}
 use Rattle.plan.specs.Limits.{last_tick, payload_bytes}

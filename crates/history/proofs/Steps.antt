@@ -1,7 +1,9 @@
 -- One call, by what it comes to. Every later proof goes by this list of cases and never looks at the tests again.
 -- It leans on Verdicts: a call is accepted exactly when its lines pass.
-use Rattle.common.specs.Words.{ℕ, ◌≤◌, ◌<◌, Bool, true, false, cond, ◌&&◌, true≢false, List, [], ◌⊎◌, inl, inr, ⊎_elim}
-use Rattle.common.specs.Words.{◌≡◌, refl}
+use Rattle.std.specs.Prelude.{◌≤◌, ◌<◌, ◌&&◌, ◌⊎◌}
+use Rattle.common.specs.Words.{ℕ, Bool, true, false, cond, true≢false, List, [], inl, inr, ⊎_elim}
+use Rattle.std.specs.Prelude.{◌≡◌}
+use Rattle.common.specs.Words.{refl}
 use Rattle.common.specs.Words.{sym, ap, subst, ◌∙◌, eqb, lt-ltb, le-ltb}
 use Rattle.common.specs.Tests.{lt_or_le}
 use Rattle.model.specs.Model.{last, sender_of}

@@ -10,7 +10,8 @@
 -- so one over every receive of every sequence of calls; `H ⊑ K` says that K begins with H. `SentIn p m H q n b`: some send on queue q in
 -- H, with payload b, was accepted as message n. All definitions stand in History and Smaller; each statement here is proved in the file
 -- that its proof names, and nothing is assumed.
-use Rattle.common.specs.Words.{ℕ, ◌-◌, ◌*◌, ◌≤◌, ◌<◌, List, ◌∷◌, ◌++◌, ◌↔◌, ◌≡◌, subst, length, drop}
+use Rattle.std.specs.Prelude.{◌-◌, ◌*◌, ◌≤◌, ◌<◌, ◌∷◌, ◌++◌, ◌↔◌, ◌≡◌}
+use Rattle.common.specs.Words.{ℕ, List, subst, length, drop}
 use Rattle.calendar.specs.Calendar.{message, slot}
 use Rattle.history.specs.Types.{Slot, Plan, Sent, Received}
 use Rattle.model.specs.Model.{Sender, receiver_period, release_of, deadline_of, number, first, last, sender_of, job_of}
@@ -85,7 +86,7 @@ module _ {p : Plan} (made : Made p) {m : List ℕ} (begins : Begins p m) where
   -- The row that it names is n's sender: the one that the way back answers, whose job has the number n.
   pub gap_names_sender : (H : History) (q t n row : ℕ) → receive_says p (world p m H) q t ≡ Received.Gap (message n) row →
       (row ≡ sender_of (queue_at p q) last_tick n) × Sender (queue_at p q) row
-          × (number (queue_at p q) row (job_of (queue_at p q) last_tick n) ≡ n)
+      × (number (queue_at p q) row (job_of (queue_at p q) last_tick n) ≡ n)
   gap_names_sender = Reading.gap_names_sender (made_fits made).sound begins
 
   -- The same of a history that is given as a list of calls.

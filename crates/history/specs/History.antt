@@ -2,7 +2,8 @@
 -- answered. Every answer, state and memory here is the one that the contracts of start, send, receive and view cite.
 -- A history begins with one accepted start, `Begins p m`, and has none after it. It grows at its end, so a statement over
 -- every history is one over every call of every sequence of calls.
-use Rattle.common.specs.Words.{ℕ, zero, suc, ◌-◌, cond, ◌&&◌, List, [], ◌∷◌, ◌++◌, ◌⊎◌, ◌≡◌, eqb}
+use Rattle.std.specs.Prelude.{◌-◌, ◌&&◌, ◌∷◌, ◌++◌, ◌⊎◌, ◌≡◌}
+use Rattle.common.specs.Words.{ℕ, zero, suc, cond, List, [], eqb}
 use Rattle.calendar.specs.Calendar.{message, slot}
 use Rattle.history.specs.Types.{Slot, Plan, State, Started, Sent, Received}
 use Rattle.model.specs.Model.{Queue, first, last, sender_of}

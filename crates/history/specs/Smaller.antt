@@ -1,6 +1,7 @@
 -- "with any smaller one (at least 1), places reckoned anew, some sequence of accepted sends and receives from a start reports a sent
 -- message as a gap": the plan with another size for one queue, and what such a sequence is. There are definitions only.
-use Rattle.common.specs.Words.{ℕ, cond, List, ◌≡◌, eqb, ltb}
+use Rattle.std.specs.Prelude.{◌≡◌}
+use Rattle.common.specs.Words.{ℕ, cond, List, eqb, ltb}
 use Rattle.common.specs.Terms.{only, sum, table}
 use Rattle.calendar.specs.Calendar.{message}
 use Rattle.plan.specs.Limits.{queue_limit}

@@ -1,5 +1,6 @@
 -- The contract of `plan_text` determines the outcome: two results that both meet it are equal.
-use Rattle.common.specs.Words.{ℕ, Bool, List, ◌≡◌, sym, ◌∙◌}
+use Rattle.std.specs.Prelude.{◌≡◌}
+use Rattle.common.specs.Words.{ℕ, Bool, List, sym, ◌∙◌}
 use Rattle.imports.specs.Imports.{import_of}
 use Rattle.tableplans.specs.declared.Import.{Import}
 

@@ -1,9 +1,12 @@
 -- How a tree grows: with no key it is sound, and it stays so when a key is entered where the search for it ended.
-use Rattle.common.specs.Words.{ℕ, zero, suc, ◌+◌, ◌-◌, ◌*◌, ◌/◌, ◌%◌, ◌<◌, ◌≤◌, arith, add-one, Bool, true, false}
+use Rattle.std.specs.Prelude.{◌+◌, ◌-◌, ◌*◌, ◌/◌, ◌%◌, ◌<◌, ◌≤◌}
+use Rattle.common.specs.Words.{ℕ, zero, suc, arith, add-one, Bool, true, false}
 use Rattle.common.specs.Words.{cond}
-use Rattle.common.specs.Words.{◌&&◌, List, [], ◌∷◌, ◌++◌, ◌≡◌, refl, ap, ◌∙◌}
+use Rattle.std.specs.Prelude.{◌&&◌, ◌∷◌, ◌++◌, ◌≡◌}
+use Rattle.common.specs.Words.{List, [], refl, ap, ◌∙◌}
 use Rattle.common.specs.Words.{eqb, eq-eqb, ne_eqb, eqb-true, eqb-false, length, length-append, get_or, get_or-append, get_or_at}
-use Rattle.common.specs.Words.{pos_of_ne-zero, ◌⊎◌, inl, inr, ⊎_elim}
+use Rattle.std.specs.Prelude.{◌⊎◌}
+use Rattle.common.specs.Words.{pos_of_ne-zero, inl, inr, ⊎_elim}
 use Rattle.common.specs.Words.{set, length-set, get_or-set_same, get_or-set_other}
 use Rattle.common.specs.Tests.{lt_or_le, true_or_false}
 use Rattle.std.proofs.Math.Bool.{and-false}
@@ -61,7 +64,7 @@ module _ (t : List ℕ) (n z : ℕ) (room : 2 * n + 4 ≤ length t) (low : z < 2
       ∙ ⊎_elim (λ (b : s < 2 * n + 3).
       let i : s ≡ 2 * n + 2 = omega arith in
       rw i (get_or-set_other (set t (2 * n + 2) 0) (2 * n + 3) (2 * n + 2) 0 0 (λ e. omega arith)
-          ∙ get_or-set_same t (2 * n + 2) 0 0 (omega arith)))
+      ∙ get_or-set_same t (2 * n + 2) 0 0 (omega arith)))
       (λ (b : 2 * n + 3 ≤ s).
       let i : s ≡ 2 * n + 3 = omega arith in
       rw i (get_or-set_same (set t (2 * n + 2) 0) (2 * n + 3) 0 0 (simp length-set (omega arith))))
@@ -127,7 +130,7 @@ module _ (t : List ℕ) (keys : List Meaning) (y : Meaning) (z : ℕ) (x : Sound
 
       go : (eqb (get_or t s 0) 0 ≡ true) ⊎ (eqb (get_or t s 0) 0 ≡ false) → (eqb s z ≡ true) ⊎ (eqb s z ≡ false) →
           (same_meaning (get_or keys (get_or t s 0 - 1) nothing) k ≡ true) ⊎ (same_meaning (get_or keys (get_or t s 0 - 1) nothing) k ≡ false)
-              →
+          →
           ((get_or t s 0 ≡ 0 → ⊥) →
           get_or then (walk_by then more k (f + 2) (2 * get_or t s 0 + h % 2) (h / 2)) 0
           ≡ held k (walk_by t keys k f (2 * get_or t s 0 + h % 2) (h / 2))) →

@@ -1,5 +1,6 @@
 -- The keys of each sort of row, as the rows are written.
-use Rattle.common.specs.Words.{ℕ, ◌<◌, arith, List, ◌≡◌, refl, ne_eqb}
+use Rattle.std.specs.Prelude.{◌<◌, ◌≡◌}
+use Rattle.common.specs.Words.{ℕ, arith, List, refl, ne_eqb}
 use Rattle.rows.specs.Rows.{Row, a_link, process_row, type_row, implementation_row, port_row, thread_row, link_row}
 use Rattle.keys.specs.Keys.{key}
 use Rattle.index.specs.Index.{column, declared_key, key_by, no_key}

@@ -1,6 +1,8 @@
 -- Laws of rows in memory and of their keys, and how a dictionary grows row by row.
-use Rattle.common.specs.Words.{ℕ, zero, suc, ◌+◌, ◌-◌, ◌*◌, ◌/◌, ◌%◌, ◌<◌, ◌≤◌, arith, true, false, List}
-use Rattle.common.specs.Words.{[], ◌∷◌, ◌++◌, ◌≡◌, refl, sym, ap, ◌∙◌}
+use Rattle.std.specs.Prelude.{◌+◌, ◌-◌, ◌*◌, ◌/◌, ◌%◌, ◌<◌, ◌≤◌}
+use Rattle.common.specs.Words.{ℕ, zero, suc, arith, true, false, List}
+use Rattle.std.specs.Prelude.{◌∷◌, ◌++◌, ◌≡◌}
+use Rattle.common.specs.Words.{[], refl, sym, ap, ◌∙◌}
 use Rattle.common.specs.Words.{length, take, drop, drop-drop, get_or, get_or-take, get_or-drop, set, length-set, get_or-set_same, get_or-set_other}
 use Rattle.rows.specs.Rows.{Row, row_words}
 use Rattle.keys.specs.Keys.{Meaning, meant, same_meaning}
@@ -99,7 +101,7 @@ indexed_none p role rows tree l =
       room = simp length-set l;
       sound =
           sound_none (set (set tree 0 0) 1 0) (get_or-set_other (set tree 0 0) 1 0 0 0 (λ e. omega arith)
-              ∙ get_or-set_same tree 0 0 0 (omega arith))
+          ∙ get_or-set_same tree 0 0 0 (omega arith))
           (get_or-set_same (set tree 0 0) 1 0 0 (simp length-set (omega arith)));
     }
 

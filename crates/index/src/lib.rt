@@ -2,7 +2,8 @@
 // memory that the caller lends, and answers after about as many steps as the number of rows has bits.
 #![tactic(auto)]
 
-ghost use Rattle.common.specs.Words.{◌≡◌, ◌+◌, ◌*◌, ◌<◌, ◌≤◌, length};
+ghost use Rattle.std.specs.Prelude.{◌≡◌, ◌+◌, ◌*◌, ◌<◌, ◌≤◌};
+ghost use Rattle.common.specs.Words.{length};
 ghost use Rattle.keys.specs.Keys.{meant};
 ghost use Rattle.rows.specs.Rows.{row_words};
 ghost use Rattle.index.specs.Found.{found};

@@ -1,7 +1,8 @@
 -- Which lines of the table of refusals each running call tests, in document 01's order: "Running calls test 7, 8, 14, 9, 11, 10, 12, 13,
 -- as far as each applies". The lines 11, 10, 12 and 13 are the crate timing's; they see two numbers of the state: `before`, its tick, and
 -- `unsent`, the job after the last one that the task sent into the queue.
-use Rattle.common.specs.Words.{ℕ, ◌+◌, ◌*◌, ◌/◌, not, List, [], ◌∷◌, ltb, eqb, length, get_or}
+use Rattle.std.specs.Prelude.{◌+◌, ◌*◌, ◌/◌, ◌∷◌}
+use Rattle.common.specs.Words.{ℕ, not, List, [], ltb, eqb, length, get_or}
 use Rattle.model.specs.Model.{Queue, receiver_period, deadline_of, wanted_for}
 use Rattle.plan.specs.Limits.{task_limit, payload_bytes, slot_bytes}
 use Rattle.plan.specs.Plan.{queue_at, slots_of}

@@ -1,6 +1,8 @@
 -- What holds of a running call exactly when no line of the table refuses it, in plain facts.
-use Rattle.common.specs.Words.{ℕ, ◌+◌, ◌-◌, ◌*◌, ◌<◌, ◌≤◌, arith, Bool, true, false, not, ◌||◌, List, ◌∷◌}
-use Rattle.common.specs.Words.{◌≡◌, refl, sym, ◌∙◌, ltb, eqb}
+use Rattle.std.specs.Prelude.{◌+◌, ◌-◌, ◌*◌, ◌<◌, ◌≤◌, ◌||◌, ◌∷◌}
+use Rattle.common.specs.Words.{ℕ, arith, Bool, true, false, not, List}
+use Rattle.std.specs.Prelude.{◌≡◌}
+use Rattle.common.specs.Words.{refl, sym, ◌∙◌, ltb, eqb}
 use Rattle.common.specs.Words.{length}
 use Rattle.common.specs.Words.{get_or, ltb-true, ltb-false, leb-false, eqb-true, not-false, le-ltb, lt-ltb, lt-leb, eq-eqb}
 use Rattle.common.specs.Tests.{as_tested}

@@ -5,7 +5,8 @@
 // and the column of a state that the test looks at.
 #![tactic(auto)]
 
-ghost use Rattle.common.specs.Words.{◌≡◌, true, ◌+◌, ◌-◌, ◌*◌, ◌≤◌, ltb, get_or};
+ghost use Rattle.std.specs.Prelude.{◌≡◌, ◌+◌, ◌-◌, ◌*◌, ◌≤◌};
+ghost use Rattle.common.specs.Words.{true, ltb, get_or};
 ghost use Rattle.plan.specs.Limits.{queue_limit, most_slots, slot_bytes};
 ghost use Rattle.plan.specs.Plan.{lent_plan};
 ghost use Rattle.plan.specs.Rules.{sound_plan};

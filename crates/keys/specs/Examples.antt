@@ -1,5 +1,6 @@
 -- Names and hashes of a short text, reckoned.
-use Rattle.common.specs.Words.{◌≡◌, refl, [], true, false}
+use Rattle.std.specs.Prelude.{◌≡◌}
+use Rattle.common.specs.Words.{refl, [], true, false}
 use Rattle.words.specs.Letters.{letters, same}
 use Rattle.tokens.specs.Tokens.{sort_of, run}
 use Rattle.keys.specs.Keys.{spelled, key, meaning, meant, same_meaning, turned, stirred, named, lanes_of, hash_of}

@@ -1,5 +1,6 @@
 -- Keys and what they mean: a name is what is spelled at its place.
-use Rattle.common.specs.Words.{ℕ, ◌+◌, ◌*◌, ◌%◌, ◌<◌, Bool, cond, ◌&&◌, List, [], ◌∷◌, eqb, leb, take, drop}
+use Rattle.std.specs.Prelude.{◌+◌, ◌*◌, ◌%◌, ◌<◌, ◌&&◌, ◌∷◌}
+use Rattle.common.specs.Words.{ℕ, Bool, cond, List, [], eqb, leb, take, drop}
 use Rattle.words.specs.Letters.{same}
 use Rattle.tokens.specs.Tokens.{sort_of, run, letter, digit}
 use Rattle.keys.specs.declared.Key.{Key}

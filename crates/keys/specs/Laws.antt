@@ -1,6 +1,8 @@
 -- Laws of keys: names are walked byte by byte, and keys that are found the same mean the same.
-use Rattle.common.specs.Words.{ℕ, zero, suc, ◌+◌, ◌*◌, ◌%◌, ◌<◌, ◌≤◌, arith, add-one, Bool, true, false, cond, ◌&&◌}
-use Rattle.common.specs.Words.{List, [], ◌∷◌, ◌≡◌, refl, sym, ap, ◌∙◌}
+use Rattle.std.specs.Prelude.{◌+◌, ◌*◌, ◌%◌, ◌<◌, ◌≤◌, ◌&&◌}
+use Rattle.common.specs.Words.{ℕ, zero, suc, arith, add-one, Bool, true, false, cond}
+use Rattle.std.specs.Prelude.{◌∷◌, ◌≡◌}
+use Rattle.common.specs.Words.{List, [], refl, sym, ap, ◌∙◌}
 use Rattle.common.specs.Words.{mod-lt, mul-le-mul, eqb, leb, eq-eqb, ne_eqb, eqb-true, length, get_or, drop-cons}
 use Rattle.common.specs.Words.{drop_of_length-le, get_or-eq_default, ⊎_elim}
 use Rattle.common.specs.Tests.{and_left, and_right, lt_or_le}
@@ -73,8 +75,13 @@ module _ (p : List ℕ) (i j : ℕ) where
       same (spelled p (i + 1)) (spelled p (j + 1)) ≡ same (spelled p i) (spelled p j)
   unfolding same
   same_onward n e =
-      rw (spelled_is p i, spelled_is p j, ← e, ne_eqb (name_byte (get_or p i 0)) 0 n,
-          eq-eqb (name_byte (get_or p i 0)) (name_byte (get_or p i 0)) refl)
+      rw (
+        spelled_is p i,
+        spelled_is p j,
+        ← e,
+        ne_eqb (name_byte (get_or p i 0)) 0 n,
+        eq-eqb (name_byte (get_or p i 0)) (name_byte (get_or p i 0)) refl,
+      )
 
 -- ## Keys that are the same
 

@@ -2,7 +2,8 @@
 // are and their names are spelled alike. Any place is taken: behind the text's end no name stands.
 #![tactic(auto)]
 
-ghost use Rattle.common.specs.Words.{◌≡◌, ◌<◌, get_or};
+ghost use Rattle.std.specs.Prelude.{◌≡◌, ◌<◌};
+ghost use Rattle.common.specs.Words.{get_or};
 ghost use Rattle.words.specs.Letters.{same};
 ghost use Rattle.keys.specs.Keys.{spelled, meant, same_meaning, name_byte, prime, Below, turned, stirred, named, hash_of};
 

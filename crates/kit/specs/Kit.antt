@@ -1,5 +1,6 @@
 -- AADL.md, section 5: the table. Its numbers are those that planning takes.
-use Rattle.common.specs.Words.{ℕ, suc, ◌-◌, ◌/◌, ◌%◌, ◌≤◌, Bool, false, not, cond, List, [], ◌∷◌, eqb, length}
+use Rattle.std.specs.Prelude.{◌-◌, ◌/◌, ◌%◌, ◌≤◌, ◌∷◌}
+use Rattle.common.specs.Words.{ℕ, suc, Bool, false, not, cond, List, [], eqb, length}
 use Rattle.common.specs.Table.{table}
 use Rattle.keys.specs.Keys.{key}
 use Rattle.rows.specs.Rows.{Row, period_column, deadline_column, priority_column, most_value}

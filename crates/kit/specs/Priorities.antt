@@ -1,5 +1,6 @@
 -- Priorities fit a byte where no row has one over 255.
-use Rattle.common.specs.Words.{ℕ, ◌≤◌, ◌<◌, arith, List, [], ◌∷◌, eqb, ltb, length, get_or}
+use Rattle.std.specs.Prelude.{◌≤◌, ◌<◌, ◌∷◌}
+use Rattle.common.specs.Words.{ℕ, arith, List, [], eqb, ltb, length, get_or}
 use Rattle.common.specs.Table.{table, table_at}
 use Rattle.tokens.specs.Laws.{cases}
 use Rattle.rows.specs.Rows.{Row, priority_column, most_value}

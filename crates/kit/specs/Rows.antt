@@ -1,8 +1,11 @@
 -- Promise 4: rows are the threads in text order, each with the Period, Deadline and Priority that section 4 finds; queues in order of first
 -- connection; a sender is in a queue exactly where a connection says so.
-use Rattle.common.specs.Words.{ℕ, zero, suc, ◌-◌, ◌/◌, ◌%◌, ◌<◌, ◌≤◌, arith, Bool, true, false, true≢false, not, cond, List}
-use Rattle.common.specs.Words.{[], ◌∷◌, ◌++◌}
-use Rattle.common.specs.Words.{◌≡◌, refl, sym, ap, ◌∙◌, ◌⊎◌, inl, inr, ⊎_elim, eqb, eqb-true, ne_eqb, lt-ltb, length}
+use Rattle.std.specs.Prelude.{◌-◌, ◌/◌, ◌%◌, ◌<◌, ◌≤◌}
+use Rattle.common.specs.Words.{ℕ, zero, suc, arith, Bool, true, false, true≢false, not, cond, List}
+use Rattle.std.specs.Prelude.{◌∷◌, ◌++◌}
+use Rattle.common.specs.Words.{[]}
+use Rattle.std.specs.Prelude.{◌≡◌, ◌⊎◌}
+use Rattle.common.specs.Words.{refl, sym, ap, ◌∙◌, inl, inr, ⊎_elim, eqb, eqb-true, ne_eqb, lt-ltb, length}
 use Rattle.common.specs.Words.{length-append, get_or}
 use Rattle.common.specs.Words.{get_or-append, get_or_at}
 use Rattle.common.specs.Tests.{lt_or_le}
@@ -130,7 +133,7 @@ module _ (p : List ℕ) (rows : List Row) where
 
   pub queue_sender : (c : ℕ) → c < cell_limit → c / task_limit < length (queues_of p rows) → c % task_limit < length (threads_of rows) →
       get_or (table_of p rows).sends c false ≡ joins p rows (get_or (queues_of p rows) (c / task_limit) 0)
-          (get_or (threads_of rows) (c % task_limit) 0)
+      (get_or (threads_of rows) (c % task_limit) 0)
   unfolding table_of
   queue_sender c l g h =
       table_at (sends_at p rows (threads_of rows) (queues_of p rows)) cell_limit c false l

@@ -2,7 +2,8 @@
 // connection to it.
 #![tactic(auto)]
 
-ghost use Rattle.common.specs.Words.{◌≡◌, ◌<◌, suc, eqb};
+ghost use Rattle.std.specs.Prelude.{◌≡◌, ◌<◌};
+ghost use Rattle.common.specs.Words.{suc, eqb};
 ghost use Rattle.common.specs.Table.{table};
 ghost use Rattle.rows.specs.Rows.{row_words};
 ghost use Rattle.index.specs.Index.{rows_in, Indexed};

@@ -1,5 +1,6 @@
 -- Feeding a text in any division into blocks gives the same lines, and the same carry, as feeding it whole.
-use Rattle.common.specs.Words.{ℕ, Bool, true, false, List, [], ◌∷◌, ◌++◌, ◌≡◌, refl, sym, ap, ◌∙◌, eqb}
+use Rattle.std.specs.Prelude.{◌∷◌, ◌++◌, ◌≡◌}
+use Rattle.common.specs.Words.{ℕ, Bool, true, false, List, [], refl, sym, ap, ◌∙◌, eqb}
 use Rattle.lines.specs.Lines.{line_feed, cut, lines_before, fed}
 unfoldable pub use Rattle.lines.specs.Lines.{fed_all, joined}
 

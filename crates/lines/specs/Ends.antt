@@ -1,8 +1,10 @@
 -- Where the next line of a block ends, and what feeding the block is in these terms.
-use Rattle.common.specs.Words.{ℕ, zero, suc, ◌+◌, ◌<◌, ◌≤◌, arith, add-one, Bool, true, false, cond, true≢false, List, []}
-use Rattle.common.specs.Words.{◌∷◌, ◌++◌}
+use Rattle.std.specs.Prelude.{◌+◌, ◌<◌, ◌≤◌}
+use Rattle.common.specs.Words.{ℕ, zero, suc, arith, add-one, Bool, true, false, cond, true≢false, List, []}
+use Rattle.std.specs.Prelude.{◌∷◌, ◌++◌}
 use Rattle.common.specs.Words.{append_assoc}
-use Rattle.common.specs.Words.{append-nil, ◌≡◌, refl, ap, ◌∙◌, eqb, length, take, drop, get_or, drop_of_length-le, drop-cons, eq-eqb}
+use Rattle.std.specs.Prelude.{◌≡◌}
+use Rattle.common.specs.Words.{append-nil, refl, ap, ◌∙◌, eqb, length, take, drop, get_or, drop_of_length-le, drop-cons, eq-eqb}
 use Rattle.common.specs.Words.{ne_eqb}
 use Rattle.common.specs.Words.{eqb-false}
 use Rattle.lines.specs.Lines.{line_feed, cut, lines_before, fed}
@@ -58,7 +60,7 @@ fed_line c (b ∷ bs) h l = go (eqb b line_feed) refl (fed_line (cut (c ++ (b �
         (e : Bool) → eqb b line_feed ≡ e →
         (run bs < length bs →
         fed (cut (c ++ (b ∷ []))) bs ≡ lines_before (cut (cut (c ++ (b ∷ [])) ++ take (run bs) bs) ∷ []) (fed [] (drop (suc (run bs)) bs)))
-            →
+        →
         fed c (b ∷ bs) ≡ lines_before (cut (c ++ take (run (b ∷ bs)) (b ∷ bs)) ∷ []) (fed [] (drop (suc (run (b ∷ bs))) (b ∷ bs)))
     go true e f = rw (e, append-nil c, h)
     go false e f =

@@ -1,6 +1,7 @@
 -- The carry buffer: its first `used` bytes are the carry. What it holds after a part of a line was put behind the carry, and the line
 -- that the carry and that part make.
-use Rattle.common.specs.Words.{ℕ, ◌+◌, ◌-◌, ◌<◌, ◌≤◌, min, arith, cond, List, ◌++◌, ⊎_elim, ◌≡◌, sym, ap, ◌∙◌}
+use Rattle.std.specs.Prelude.{◌+◌, ◌-◌, ◌<◌, ◌≤◌, ◌++◌, ◌≡◌}
+use Rattle.common.specs.Words.{ℕ, min, arith, cond, List, ⊎_elim, sym, ap, ◌∙◌}
 use Rattle.common.specs.Words.{eqb, ltb, length, take}
 use Rattle.common.specs.Words.{drop}
 use Rattle.common.specs.Words.{length-append, length-take, take_all, take-take, take-length, length-take-le, sets, length-sets, sets-eq}

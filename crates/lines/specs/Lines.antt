@@ -1,6 +1,7 @@
 -- Lines of a text that comes in blocks. Document 01: "reads lines of lower-case hexadecimal from standard input, one frame a line";
 -- "A last line without its end counts as a line". Any byte but the line feed belongs to a line.
-use Rattle.common.specs.Words.{ℕ, cond, List, [], ◌∷◌, ◌++◌, eqb, length, take}
+use Rattle.std.specs.Prelude.{◌∷◌, ◌++◌}
+use Rattle.common.specs.Words.{ℕ, cond, List, [], eqb, length, take}
 
 abbrev pub line_feed : ℕ
 line_feed = 10

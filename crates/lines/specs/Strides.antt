@@ -1,5 +1,6 @@
 -- How far whole strides without a line feed are passed over: the laws of a loop that does it, and that the line still ends where it did.
-use Rattle.common.specs.Words.{ℕ, zero, suc, ◌+◌, ◌*◌, ◌<◌, ◌≤◌, arith, Bool, true, false, not, ◌&&◌, List, ◌≡◌}
+use Rattle.std.specs.Prelude.{◌+◌, ◌*◌, ◌<◌, ◌≤◌, ◌&&◌, ◌≡◌}
+use Rattle.common.specs.Words.{ℕ, zero, suc, arith, Bool, true, false, not, List}
 use Rattle.common.specs.Words.{◌∙◌, leb, length}
 use Rattle.common.specs.Words.{⊎_elim, le-leb, leb-true, not-true}
 use Rattle.common.specs.Tests.{lt_or_le, and_left, and_right}

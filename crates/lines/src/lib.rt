@@ -3,7 +3,8 @@
 // bytes in one way, so 101 bytes are kept of a line and the rest is let go.
 #![tactic(auto)]
 
-ghost use Rattle.common.specs.Words.{◌≡◌, ◌+◌, ◌-◌, ◌≤◌, min, length};
+ghost use Rattle.std.specs.Prelude.{◌≡◌, ◌+◌, ◌-◌, ◌≤◌};
+ghost use Rattle.common.specs.Words.{min, length};
 ghost use Rattle.common.specs.Stores.{part};
 ghost use Rattle.lines.specs.Lines.{carry_limit};
 ghost use Rattle.lines.specs.Ends.{stride, feed_in, end_of};

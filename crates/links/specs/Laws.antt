@@ -1,5 +1,6 @@
 -- Laws of connections: what the code does one after another is what the rules say, and how far they go.
-use Rattle.common.specs.Words.{ℕ, arith, Bool, true, false, cond, ◌&&◌, List, [], ◌≡◌, refl, sym, ap, ◌∙◌, eqb, eq-eqb, ne_eqb}
+use Rattle.std.specs.Prelude.{◌&&◌, ◌≡◌}
+use Rattle.common.specs.Words.{ℕ, arith, Bool, true, false, cond, List, [], refl, sym, ap, ◌∙◌, eqb, eq-eqb, ne_eqb}
 use Rattle.common.specs.Words.{get_or}
 use Rattle.words.specs.Words.{is_name}
 use Rattle.words.specs.Kinds.{ENDED, DOT, SEMICOLON}

@@ -1,5 +1,6 @@
 -- A connection is paid for by its text.
-use Rattle.common.specs.Words.{ℕ, arith, ◌&&◌}
+use Rattle.std.specs.Prelude.{◌&&◌}
+use Rattle.common.specs.Words.{ℕ, arith}
 use Rattle.words.specs.Kinds.{SEMICOLON}
 use Rattle.tokens.specs.Laws.{cases}
 use Rattle.steps.specs.Steps.{On, head, next, second, the}

@@ -1,5 +1,6 @@
 -- A connection's row has all its columns.
-use Rattle.common.specs.Words.{ℕ, arith, refl, ◌&&◌}
+use Rattle.std.specs.Prelude.{◌&&◌}
+use Rattle.common.specs.Words.{ℕ, arith, refl}
 use Rattle.words.specs.Kinds.{SEMICOLON}
 use Rattle.tokens.specs.Laws.{cases}
 use Rattle.steps.specs.Steps.{On, head, next, second, the}
@@ -17,7 +18,7 @@ unfolding link declared link_row
 link_wide p start n ps ts =
     wide_onward _ (declared p start n (On ts))
     (wide_onward _ (quiet (the SEMICOLON)) (wide_onward _ (maybe_block_in of_port) (wide_quiet (λ us. ends (On us)) ps ts)
-        (maybe_block_wide of_port))
+    (maybe_block_wide of_port))
     (wide_quiet (the SEMICOLON)))
     (wide_optionally (λ us. pointed (sending (On ts)) && pointed (receiving (On ts)))
     (put (linked p start n (On ts))) (wide_put (linked p start n (On ts)) (λ qs. refl) (λ qs l. omega arith)))

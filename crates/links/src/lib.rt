@@ -1,7 +1,7 @@
 // Connections of a process implementation: port connections between threads are declared, others are passed over.
 #![tactic(auto)]
 
-ghost use Rattle.common.specs.Words.{◌≡◌, ◌&&◌};
+ghost use Rattle.std.specs.Prelude.{◌≡◌, ◌&&◌};
 ghost use Rattle.steps.specs.Lifted.{lift};
 ghost use Rattle.rows.specs.States.{state_of, does};
 ghost use Rattle.links.specs.Links.{EndsAt, timing_by, link, other_kind, connection_of, label_in, connection, connection_kind, connections};

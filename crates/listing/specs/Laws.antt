@@ -1,7 +1,10 @@
 -- Lines behind lines, and masks.
-use Rattle.common.specs.Words.{ℕ, zero, suc, ◌+◌, ◌*◌, ◌^◌, ◌≤◌, ◌<◌, arith, add-one, Bool, true, false, cond}
-use Rattle.common.specs.Words.{List, [], ◌∷◌, ◌++◌, append_assoc, length, length-append, get_or, sets}
-use Rattle.common.specs.Words.{◌≡◌, refl, ◌∙◌, pow-suc, pow-le-pow_right, zero-add}
+use Rattle.std.specs.Prelude.{◌+◌, ◌*◌, ◌^◌, ◌≤◌, ◌<◌}
+use Rattle.common.specs.Words.{ℕ, zero, suc, arith, add-one, Bool, true, false, cond}
+use Rattle.std.specs.Prelude.{◌∷◌, ◌++◌}
+use Rattle.common.specs.Words.{List, [], append_assoc, length, length-append, get_or, sets}
+use Rattle.std.specs.Prelude.{◌≡◌}
+use Rattle.common.specs.Words.{refl, ◌∙◌, pow-suc, pow-le-pow_right, zero-add}
 use Rattle.common.specs.Stores.{sets_append}
 use Rattle.plan.specs.Limits.{task_limit}
 use Rattle.digits.specs.Hex.{digits}
@@ -120,7 +123,7 @@ tasks_more period deadline priority l n =
 
 pub queues_more : (receiver : List ℕ) (sends : List Bool) (l : List ℕ) (at n : ℕ) →
     sets (sets l at (each_queue receiver sends n)) (at + queue_line * n)
-        (line_of (queue_bytes (get_or receiver n 0) (mask_of (sender sends n) task_limit)))
+    (line_of (queue_bytes (get_or receiver n 0) (mask_of (sender sends n) task_limit)))
     ≡ sets l at (each_queue receiver sends (n + 1))
 unfolding each_queue
 queues_more receiver sends l at n =

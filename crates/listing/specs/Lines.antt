@@ -1,5 +1,6 @@
 -- The lines that the program `table` writes: the console's frames of a plan's table, or a refusal with its place.
-use Rattle.common.specs.Words.{ℕ, zero, suc, ◌+◌, ◌*◌, ◌^◌, min, Bool, cond, false, List, [], ◌∷◌, ◌++◌, get_or}
+use Rattle.std.specs.Prelude.{◌+◌, ◌*◌, ◌^◌, ◌∷◌, ◌++◌}
+use Rattle.common.specs.Words.{ℕ, zero, suc, min, Bool, cond, false, List, [], get_or}
 use Rattle.plan.specs.Limits.{task_limit, queue_limit}
 use Rattle.plan.specs.declared.Plan.{Plan}
 use Rattle.digits.specs.Numbers.{in_bytes}

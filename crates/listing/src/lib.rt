@@ -3,7 +3,8 @@
 
 pub mod lines; // lines.rt: the lines of digits
 
-ghost use Rattle.common.specs.Words.{◌≡◌, ◌≤◌, min};
+ghost use Rattle.std.specs.Prelude.{◌≡◌, ◌≤◌};
+ghost use Rattle.common.specs.Words.{min};
 
 // The least of two numbers, for the lines and for the words of `report`.
 pub fn least(a: usize, b: usize) -> usize

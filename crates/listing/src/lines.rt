@@ -1,5 +1,6 @@
 // The lines of digits: the console's frames of a table, and a refusal that has a place. Where they write, they require room.
-ghost use Rattle.common.specs.Words.{◌≡◌, [], ◌∷◌, ◌+◌, ◌*◌, ◌≤◌, ◌<◌, cond, length, sets};
+ghost use Rattle.std.specs.Prelude.{◌≡◌, ◌∷◌, ◌+◌, ◌*◌, ◌≤◌, ◌<◌};
+ghost use Rattle.common.specs.Words.{[], cond, length, sets};
 ghost use Rattle.plan.specs.Limits.{task_limit, queue_limit};
 ghost use Rattle.frames.specs.Answers.{line_of};
 ghost use Rattle.frames.specs.Writing.{Written};

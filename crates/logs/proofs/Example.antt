@@ -1,5 +1,6 @@
 -- Document 01's session as a log: computed line by line. The theorems' premises are met, and what they say of it is what document 01 prints.
-use Rattle.common.specs.Words.{ℕ, ◌%◌, ◌≤◌, arith, List, [], ◌∷◌, ◌++◌, inl, inr, ◌≡◌, refl, subst, ◌∙◌, replicate}
+use Rattle.std.specs.Prelude.{◌%◌, ◌≤◌, ◌∷◌, ◌++◌, ◌≡◌}
+use Rattle.common.specs.Words.{ℕ, arith, List, [], inl, inr, refl, subst, ◌∙◌, replicate}
 use Rattle.common.specs.Totals.{sum, most}
 use Rattle.common.proofs.Rows.{every, some, first_bad}
 use Rattle.common.specs.Table.{table}
@@ -75,14 +76,14 @@ computed :
     × AcceptedIn (session_log memory input) × StoredIn (session_log memory input) 0 2 payload × EndedIn table_a 0 1 (session_log memory input)
 unfolding
     sound_plan checked_plan counts_good one_to task_good queue_good only_tasks_send places_good place_good every some first_bad sum most count
-        has_deadline
+    has_deadline
     precedes up_to due_at followers number wanted_for horizon outdated euclid gcd lcm multiple hyperperiod messages need row_slots slots_over slots
-        last
+    last
     tabled long_queue sized table_judged plan_of table bytes_of number_from stored cleared running.send_answer running.send_memory
     running.look view_of start_answer start_memory send_state receive_state found digit is_line bytes_in digits value_at in_bytes frame_of
-        payload_in each_size
+    payload_in each_size
     sizes_bytes stored_bytes message_bytes gap_bytes empty_bytes line_of framed_bytes row_turn with_task with_queue planned with_run go_turn
-        with_state call_turn
+    with_state call_turn
     bytes_turn line_turn console_after answers_to log_of lines_to said_in
 computed = (
   refl,

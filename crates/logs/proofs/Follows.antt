@@ -1,6 +1,8 @@
 -- A session follows a history: from the accepted 03 on, the desk, the memory and the log are those of the calls that the lines make.
-use Rattle.common.specs.Words.{ℕ, arith, true, false, List, [], ◌∷◌, ◌++◌, append_assoc, append-nil, map, ◌⊎◌, inl, inr, ◌↔◌}
-use Rattle.common.specs.Words.{◌≡◌, refl}
+use Rattle.std.specs.Prelude.{◌∷◌, ◌++◌, ◌⊎◌, ◌↔◌}
+use Rattle.common.specs.Words.{ℕ, arith, true, false, List, [], append_assoc, append-nil, map, inl, inr}
+use Rattle.std.specs.Prelude.{◌≡◌}
+use Rattle.common.specs.Words.{refl}
 use Rattle.common.specs.Words.{sym, ap, subst, ◌∙◌}
 use Rattle.plan.specs.Plan.{queue_at}
 use Rattle.planning.specs.AcceptedPlan.{Made}

@@ -1,5 +1,6 @@
 -- The turn of a line, case by case: what the proofs of this crate know of the console's own definition, and all that they know of it.
-use Rattle.common.specs.Words.{ℕ, Bool, true, false, cond, List, ◌≡◌, refl, ◌∙◌}
+use Rattle.std.specs.Prelude.{◌≡◌}
+use Rattle.common.specs.Words.{ℕ, Bool, true, false, cond, List, refl, ◌∙◌}
 use Rattle.mailbox.specs.Calls.{send_answer, send_state, send_memory, look, receive_state}
 use Rattle.console.specs.Framing.{line_framed}
 use Rattle.desk.specs.Desk.{Turn, says, bad, task_turn, queue_turn, go_turn, with_state}

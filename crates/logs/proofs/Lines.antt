@@ -1,6 +1,8 @@
 -- Each answer's line says the answer's code and values, where they fit the bytes that they are written in.
-use Rattle.common.specs.Words.{ℕ, zero, suc, ◌+◌, ◌*◌, ◌/◌, ◌^◌, ◌<◌, arith, List, [], ◌∷◌, ◌++◌, append_assoc}
-use Rattle.common.specs.Words.{append-nil, ◌≡◌, refl, sym, ap}
+use Rattle.std.specs.Prelude.{◌+◌, ◌*◌, ◌/◌, ◌^◌, ◌<◌, ◌∷◌, ◌++◌}
+use Rattle.common.specs.Words.{ℕ, zero, suc, arith, List, [], append_assoc}
+use Rattle.std.specs.Prelude.{◌≡◌}
+use Rattle.common.specs.Words.{append-nil, refl, sym, ap}
 use Rattle.common.specs.Words.{◌∙◌, ⊎_elim, eq-or-lt_of_le, le_of_suc-le-suc, length, get_or, length-append}
 use Rattle.common.specs.Table.{table}
 use Rattle.plan.specs.Refusals.{number_of}

@@ -1,6 +1,7 @@
 -- One law over all answers: a line of the console, read from its digits alone, says the code and every value of the answer that it was written
 -- for. No number is cut to 6 bytes, no slot or size to 2, no sender, refusal or row to 1. It holds on every desk, memory and line.
-use Rattle.common.specs.Words.{ℕ, Bool, true, false, cond, List, ◌≤◌, arith, ◌≡◌, refl, leb}
+use Rattle.std.specs.Prelude.{◌≤◌, ◌≡◌}
+use Rattle.common.specs.Words.{ℕ, Bool, true, false, cond, List, arith, refl, leb}
 use Rattle.plan.specs.Limits.{task_limit, queue_limit, last_tick}
 use Rattle.plan.specs.Says.{Said}
 use Rattle.mailbox.specs.Calls.{start_answer, send_answer, look, sent_says}

@@ -1,5 +1,6 @@
 -- A session in which an 03 was accepted: the lines before it, the 03, and the lines since then, which are a history on the desk's plan.
-use Rattle.common.specs.Words.{ℕ, ◌<◌, arith, Bool, true, false, cond, List, [], ◌∷◌, ◌++◌, map, inl, inr, ◌↔◌, ◌≡◌, refl}
+use Rattle.std.specs.Prelude.{◌<◌, ◌∷◌, ◌++◌, ◌↔◌, ◌≡◌}
+use Rattle.common.specs.Words.{ℕ, arith, Bool, true, false, cond, List, [], map, inl, inr, refl}
 use Rattle.common.specs.Words.{sym, ap, subst}
 use Rattle.common.specs.Words.{◌∙◌}
 use Rattle.common.specs.Tests.{clash}
@@ -112,7 +113,7 @@ pub runs_later : (m : List ℕ) (lines later : List (List ℕ)) (s : AsHistory m
 runs_later m lines later s =
     subst
     (λ (x : Log). Runs (desk_after m lines).plan m (go_on (calls s) (calls_in later))
-        (feed.console_after (feed.console_after (opened m) lines) later) x)
+    (feed.console_after (feed.console_after (opened m) lines) later) x)
     (sym (log_append (opened m) lines later)) (run_lines s.runs later)
 
 -- ## Readings and their lines

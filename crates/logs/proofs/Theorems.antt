@@ -6,7 +6,8 @@
 -- got, in the order of the log. `StoredIn log q n payload`: a line 04 on queue q with this payload was answered 84 with number n.
 -- `EndedIn p q k log`: a line 05 of job k was answered 87. `window_numbers`: the numbers of a job's window, from its first on. `RightLines`:
 -- one by one, the line is the one that the number ought to get, by what was stored.
-use Rattle.common.specs.Words.{ℕ, ◌≤◌, ◌<◌, List, [], ◌∷◌, ◌++◌, ◌↔◌, ◌≡◌, refl, sym, ap, subst, ◌∙◌, drop}
+use Rattle.std.specs.Prelude.{◌≤◌, ◌<◌, ◌∷◌, ◌++◌, ◌↔◌, ◌≡◌}
+use Rattle.common.specs.Words.{ℕ, List, [], refl, sym, ap, subst, ◌∙◌, drop}
 use Rattle.model.specs.Model.{first, last}
 use Rattle.plan.specs.Plan.{queue_at}
 use Rattle.digits.specs.Hex.{digits}

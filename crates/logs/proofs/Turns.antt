@@ -1,6 +1,7 @@
 -- What a line does, by the desk that it finds: on a desk that runs it is a send, a receive or nothing; before that it starts the run or
 -- changes no byte of memory.
-use Rattle.common.specs.Words.{ℕ, Bool, true, false, cond, List, [], ◌≡◌, refl, sym, subst, leb}
+use Rattle.std.specs.Prelude.{◌≡◌}
+use Rattle.common.specs.Words.{ℕ, Bool, true, false, cond, List, [], refl, sym, subst, leb}
 use Rattle.plan.specs.Limits.{task_limit, queue_limit}
 use Rattle.planning.specs.AcceptedPlan.{Made, accepted_made}
 use Rattle.mailbox.specs.Calls.{fresh, start_answer, start_memory}

@@ -1,7 +1,10 @@
 -- The digits of a payload in an 85 are those of the 04 that stored it, one by one.
-use Rattle.common.specs.Words.{ℕ, zero, suc, ◌+◌, ◌-◌, ◌*◌, ◌/◌, ◌%◌, ◌<◌, ◌≤◌, arith, Bool, true, false, cond, List}
-use Rattle.common.specs.Words.{[], ◌∷◌, ◌++◌}
-use Rattle.common.specs.Words.{append_assoc, append-nil, ◌⊎◌, inl, inr, ◌≡◌, refl, sym, ap, ◌∙◌, length, get_or, drop, ext_get_or}
+use Rattle.std.specs.Prelude.{◌+◌, ◌-◌, ◌*◌, ◌/◌, ◌%◌, ◌<◌, ◌≤◌}
+use Rattle.common.specs.Words.{ℕ, zero, suc, arith, Bool, true, false, cond, List}
+use Rattle.std.specs.Prelude.{◌∷◌, ◌++◌}
+use Rattle.common.specs.Words.{[]}
+use Rattle.std.specs.Prelude.{◌⊎◌, ◌≡◌}
+use Rattle.common.specs.Words.{append_assoc, append-nil, inl, inr, refl, sym, ap, ◌∙◌, length, get_or, drop, ext_get_or}
 use Rattle.common.specs.Words.{le-leb, lt-leb}
 use Rattle.common.specs.Words.{le-ltb, lt-ltb, ltb-true}
 use Rattle.common.specs.Tests.{lt_or_le, and_right}
@@ -51,7 +54,7 @@ module _ (line : List ℕ) (is : is_line line ≡ true) where
   -- the two digits of byte k
   pair_there : (k : ℕ) → k < length line / 2 →
       (get_or (digits (bytes_in line)) (2 * k) 0 ≡ get_or line (2 * k) 0)
-          × (get_or (digits (bytes_in line)) (2 * k + 1) 0 ≡ get_or line (2 * k + 1) 0)
+      × (get_or (digits (bytes_in line)) (2 * k + 1) 0 ≡ get_or line (2 * k + 1) 0)
   pair_there k h =
       let a = digit (get_or line (2 * k) 0) in
       let b = digit (get_or line (2 * k + 1) 0) in

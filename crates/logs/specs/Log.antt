@@ -1,6 +1,7 @@
 -- A log of the console: each line that was fed, with the line that answered it. What a reader of the log finds in it, from the digits of its
 -- lines and the plan alone: the messages that were stored, what each receiving job was told, and whether it read to its end.
-use Rattle.common.specs.Words.{ℕ, Bool, false, cond, ◌&&◌, ◌||◌, List, [], ◌∷◌, ◌++◌, ◌⊎◌, ◌≡◌, eqb}
+use Rattle.std.specs.Prelude.{◌&&◌, ◌||◌, ◌∷◌, ◌++◌, ◌⊎◌, ◌≡◌}
+use Rattle.common.specs.Words.{ℕ, Bool, false, cond, List, [], eqb}
 use Rattle.model.specs.Model.{sender_of}
 use Rattle.plan.specs.Limits.{last_tick}
 use Rattle.plan.specs.Plan.{queue_at}

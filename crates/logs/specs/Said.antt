@@ -1,6 +1,7 @@
 -- What a line of the console says. A line that was answered is a frame; a line that answers is a code and values, read from its digits
 -- alone. And beside it what the console had to say: the code and the values of the call's own answer. Law `read_back` says that they agree.
-use Rattle.common.specs.Words.{ℕ, ◌+◌, ◌*◌, ◌/◌, Bool, cond, List, [], ◌∷◌, leb, eqb, length}
+use Rattle.std.specs.Prelude.{◌+◌, ◌*◌, ◌/◌, ◌∷◌}
+use Rattle.common.specs.Words.{ℕ, Bool, cond, List, [], leb, eqb, length}
 use Rattle.common.specs.Table.{table}
 use Rattle.plan.specs.Limits.{task_limit, queue_limit}
 use Rattle.plan.specs.Plan.{size_at}

@@ -1,5 +1,6 @@
 -- A session as a history: what it means that the lines since an accepted 03 are one, and that the log shows what its calls came to.
-use Rattle.common.specs.Words.{ℕ, true, List, [], ◌∷◌, ◌++◌, map, ◌↔◌, ◌≡◌}
+use Rattle.std.specs.Prelude.{◌∷◌, ◌++◌, ◌↔◌, ◌≡◌}
+use Rattle.common.specs.Words.{ℕ, true, List, [], map}
 use Rattle.planning.specs.AcceptedPlan.{Made}
 use Rattle.frames.specs.Answers.{message_bytes, gap_bytes, line_of}
 use Rattle.desk.specs.Desk.{planned}

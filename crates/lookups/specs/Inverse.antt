@@ -1,6 +1,7 @@
 -- The lookups among each other: number and way back invert each other wherever either answers, and a window answers the numbers of the
 -- messages with deadlines after the job's previous release and not after its own.
-use Rattle.common.specs.Words.{ℕ, ◌-◌, ◌*◌, ◌<◌, ◌≤◌, arith, pos_of_ne-zero, zero-mul, true, false, not, ◌↔◌, ◌≡◌}
+use Rattle.std.specs.Prelude.{◌-◌, ◌*◌, ◌<◌, ◌≤◌, ◌↔◌, ◌≡◌}
+use Rattle.common.specs.Words.{ℕ, arith, pos_of_ne-zero, zero-mul, true, false, not}
 use Rattle.common.specs.Words.{ltb, ltb-true}
 use Rattle.common.specs.Words.{ltb-false, lt-ltb}
 use Rattle.common.specs.Words.{le-ltb, eqb-false, ne_eqb, not-false}
@@ -96,7 +97,7 @@ module _ (p : Plan) (q : ℕ) where
   window_answers m a b = (
     λ e.
         having (judged_good Window.Refused _ (Window.Numbers a b) (λ r e. let z : ◌≡◌ {A = ℕ} 0 1 = cc in omega arith) (window_lines p q m)
-            e)
+        e)
         (λ x. record {
           counted = record { sound = sound_test x.0.0; queue = queue_test x.0.1.0 };
           early = ltb-false _ _ x.0.1.1.0;

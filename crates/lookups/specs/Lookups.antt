@@ -1,6 +1,7 @@
 -- The three lookups, on any plan and any numbers: "lookups 7, 9, then 11 or 15", and the good answer where none of these applies.
 -- Limits are inclusive at the last tick. In the way back and the window 9 is about the queue alone.
-use Rattle.common.specs.Words.{ℕ, not, List, [], ◌∷◌, ltb, eqb}
+use Rattle.std.specs.Prelude.{◌∷◌}
+use Rattle.common.specs.Words.{ℕ, not, List, [], ltb, eqb}
 use Rattle.model.specs.Model.{receiver_period, released, deadline_of, number, up_to, sender_of, job_of, first, last}
 use Rattle.calendar.specs.Calendar.{job, message}
 use Rattle.lookups.specs.Types.{Job, Number, Plan, Rule, Numbered, Origins, Window}

@@ -1,5 +1,6 @@
 -- What the lookups answer in document 01's numbers, line by line.
-use Rattle.common.specs.Words.{ℕ, cond, not, [], ◌∷◌, ◌≡◌, ltb, eqb}
+use Rattle.std.specs.Prelude.{◌∷◌, ◌≡◌}
+use Rattle.common.specs.Words.{ℕ, cond, not, [], ltb, eqb}
 use Rattle.model.specs.Model.{receiver_period, released, deadline_of, number, up_to, sender_of, job_of, first, last}
 use Rattle.lookups.specs.Types.{Job, Number, Plan, Numbered, Origins, Window}
 use Rattle.plan.specs.Limits.{last_tick}

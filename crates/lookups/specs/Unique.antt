@@ -1,5 +1,6 @@
 -- The contracts determine the answers: two results that both meet a lookup's contract are equal. Lookups have no state and no memory.
-use Rattle.common.specs.Words.{ℕ, ◌≡◌, sym, ◌∙◌}
+use Rattle.std.specs.Prelude.{◌≡◌}
+use Rattle.common.specs.Words.{ℕ, sym, ◌∙◌}
 use Rattle.lookups.specs.Types.{Job, Number, Plan, Numbered, Origins, Window}
 use Rattle.lookups.specs.Lookups.{numbered_of, origins_of, window_of}
 

@@ -1,7 +1,8 @@
 -- What start, send and receive answer, and the state and memory that each leaves, on every input. All of it is the crate running's: a send
 -- looks at the state's tick and at the job after the last one that the task sent into the queue, a receive at its tick and at the queue's
 -- reading place, and what each leaves follows from its answer.
-use Rattle.common.specs.Words.{ℕ, List, [], ◌∷◌, ◌≡◌, get_or, replicate}
+use Rattle.std.specs.Prelude.{◌∷◌, ◌≡◌}
+use Rattle.common.specs.Words.{ℕ, List, [], get_or, replicate}
 use Rattle.calendar.specs.Calendar.{tick}
 use Rattle.plan.specs.Limits.{queue_limit, cell_limit}
 use Rattle.plan.specs.Refusals.{Line}
@@ -79,7 +80,7 @@ StartGives p m r memory = (r ≡ record { answer = start_answer p m; state = fre
 abbrev pub SendGives : State → Plan → List ℕ → ℕ → ℕ → ℕ → List ℕ → Sending → List ℕ → Type 0
 SendGives s p m q i t payload r memory =
     (r ≡ record { answer = send_answer s p m q i t payload; state = send_state s p m q i t payload })
-        × (memory ≡ send_memory s p m q i t payload)
+    × (memory ≡ send_memory s p m q i t payload)
 
 abbrev pub ReceiveGives : State → Plan → List ℕ → ℕ → ℕ → Receiving → Type 0
 ReceiveGives s p m q t r = r ≡ record { answer = look s p m q t; state = receive_state s p m q t }

@@ -1,6 +1,7 @@
 -- What accepted calls do for each other: a start leaves every slot unwritten, and a message that was sent is the one that a receive of
 -- its number finds, with its payload in view. Histories with other calls between are the crate history's.
-use Rattle.common.specs.Words.{ℕ, ◌+◌, ◌*◌, ◌<◌, ◌≤◌, ◌^◌, arith, div-mul-le_self, List, ◌≡◌, refl, ap, ◌∙◌}
+use Rattle.std.specs.Prelude.{◌+◌, ◌*◌, ◌<◌, ◌≤◌, ◌^◌, ◌≡◌}
+use Rattle.common.specs.Words.{ℕ, arith, div-mul-le_self, List, refl, ap, ◌∙◌}
 use Rattle.common.specs.Words.{length, lt-ltb, le-ltb, lt-leb}
 use Rattle.common.specs.Words.{le-leb, eq-eqb}
 use Rattle.model.specs.Model.{receiver_period, last, wanted_until}
@@ -96,7 +97,7 @@ module _ (s : State) (p : Plan) (m : List ℕ) (q i t : ℕ) (payload : List ℕ
         let v = (usable taken.ground.sound q taken.queue).valid in
         let o = ap (λ (x : State). x.tick.0) (state_clear s p m q i t payload clear) in
         let d = (last_iff (queue_at p q) v (receiving_job (queue_at p q) u) i (running_job (queue_at p q) i t) taken.sender).0
-            (rw answered at window) in
+        (rw answered at window) in
         omega (arith, o, d, taken.running, div-mul-le_self u (receiver_period (queue_at p q)))
 
     passed : Passed (receive_lines state p memory q u)

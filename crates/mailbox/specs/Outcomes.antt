@@ -1,5 +1,6 @@
 -- The states that accepted calls leave: a send, a receive that comes to number n, an empty receive.
-use Rattle.common.specs.Words.{ℕ, ◌+◌, ◌*◌, List, ◌≡◌, refl, set}
+use Rattle.std.specs.Prelude.{◌+◌, ◌*◌, ◌≡◌}
+use Rattle.common.specs.Words.{ℕ, List, refl, set}
 use Rattle.calendar.specs.Calendar.{tick}
 use Rattle.plan.specs.Limits.{task_limit}
 use Rattle.plan.specs.Plan.{queue_at}

@@ -1,5 +1,6 @@
 -- Refusals of the running calls: each is given exactly where its line is the first that applies, and gives back state and memory.
-use Rattle.common.specs.Words.{Bool, true, false, cond, List, ◌↔◌, ◌≡◌, ◌∙◌, ℕ, arith, ltb, eqb}
+use Rattle.std.specs.Prelude.{◌↔◌, ◌≡◌}
+use Rattle.common.specs.Words.{Bool, true, false, cond, List, ◌∙◌, ℕ, arith, ltb, eqb}
 use Rattle.plan.specs.Limits.{last_tick, payload_bytes}
 use Rattle.plan.specs.Plan.{queue_at}
 use Rattle.plan.specs.Refusals.{Line, judged}

@@ -1,5 +1,6 @@
 -- What the running calls answer in document 01's numbers, refusal by refusal.
-use Rattle.common.specs.Words.{ℕ, ◌*◌, cond, not, ◌||◌, List, [], ◌∷◌, ◌≡◌, leb, ltb, eqb, length}
+use Rattle.std.specs.Prelude.{◌*◌, ◌||◌, ◌∷◌, ◌≡◌}
+use Rattle.common.specs.Words.{ℕ, cond, not, List, [], leb, ltb, eqb, length}
 use Rattle.model.specs.Model.{wanted_until}
 use Rattle.plan.specs.Limits.{last_tick, payload_bytes, slot_bytes}
 use Rattle.plan.specs.Plan.{queue_at, slots_of}

@@ -1,6 +1,7 @@
 -- Uniqueness: two outcomes of a call that both meet its contract are the same. Each `..Gives` is the contract itself, of what a call hands
 -- back and of the memory after it.
-use Rattle.common.specs.Words.{List, ◌≡◌, sym, ◌∙◌, ℕ}
+use Rattle.std.specs.Prelude.{◌≡◌}
+use Rattle.common.specs.Words.{List, sym, ◌∙◌, ℕ}
 use Rattle.mailbox.specs.Types.{Plan, State, Starting, Sending, Receiving}
 use Rattle.mailbox.specs.Calls.{StartGives, SendGives, ReceiveGives}
 

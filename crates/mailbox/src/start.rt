@@ -1,5 +1,5 @@
 // The start of a run: a fresh state over cleared slots.
-ghost use Rattle.common.specs.Words.{◌≡◌};
+ghost use Rattle.std.specs.Prelude.{◌≡◌};
 ghost use Rattle.mailbox.specs.Calls.{fresh, StartGives};
 
 use crate::{Starting, State};

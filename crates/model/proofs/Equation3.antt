@@ -1,5 +1,6 @@
 -- Equation 3 is a bound that needs no hyperperiod: it is fit, so the least fit size is never above it.
-use Rattle.common.specs.Words.{ℕ, ◌+◌, ◌/◌, ◌<◌, ◌≤◌, arith, le_refl}
+use Rattle.std.specs.Prelude.{◌+◌, ◌/◌, ◌<◌, ◌≤◌}
+use Rattle.common.specs.Words.{ℕ, arith, le_refl}
 use Rattle.common.specs.Totals.{only, sum, only_le, only_add, sum_add, sum_le, most_le}
 use Rattle.model.specs.Model.{Queue, Valid, Sender, count_of, up_to, release_of, deadline_of, horizon, outdated, slots}
 use Rattle.model.specs.Source.{Fit, reach, equation3}

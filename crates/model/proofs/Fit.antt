@@ -1,5 +1,6 @@
 -- When a size is fit: a test for each message by itself. Every size above a fit one is fit, and 0 is not.
-use Rattle.common.specs.Words.{ℕ, ◌+◌, ◌-◌, ◌<◌, ◌≤◌, arith, lt_of_not-le, not-le_of_lt, ◌↔◌, ⊎_elim}
+use Rattle.std.specs.Prelude.{◌+◌, ◌-◌, ◌<◌, ◌≤◌, ◌↔◌}
+use Rattle.common.specs.Words.{ℕ, arith, lt_of_not-le, not-le_of_lt, ⊎_elim}
 use Rattle.common.specs.Tests.{lt_or_le, having}
 use Rattle.model.specs.Model.{Queue, Valid, Sender, up_to, release_of, deadline_of, number, horizon, outdated}
 use Rattle.model.specs.Source.{Fit, outdated_at}

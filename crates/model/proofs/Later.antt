@@ -1,5 +1,6 @@
 -- A hyperperiod later: the same jobs, with as many messages more before each as a hyperperiod has.
-use Rattle.common.specs.Words.{ℕ, ◌+◌, ◌-◌, ◌/◌, ◌≤◌, arith, true, false, ⊎_elim, ◌≡◌, ◌∙◌}
+use Rattle.std.specs.Prelude.{◌+◌, ◌-◌, ◌/◌, ◌≤◌, ◌≡◌}
+use Rattle.common.specs.Words.{ℕ, arith, true, false, ⊎_elim, ◌∙◌}
 use Rattle.common.specs.Tests.{true_or_false}
 use Rattle.common.specs.Totals.{only, only_eq, only_add, sum_ext, sum_add}
 use Rattle.model.specs.Model.{Queue, Valid, Sender, receiver_period, messages, count_of, up_to, release_of, deadline_of}

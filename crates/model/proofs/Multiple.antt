@@ -1,6 +1,8 @@
 -- The least common multiple of two numbers by the greatest common divisor, and of a queue's periods: its hyperperiod.
-use Rattle.common.specs.Words.{◌≡◌, refl, sym, ap, ◌∙◌, Bool, true, false, cond, ⊎_elim, ℕ, zero, suc, ◌+◌, ◌*◌, ◌/◌}
-use Rattle.common.specs.Words.{◌≤◌, ◌<◌, ◌∣◌}
+use Rattle.std.specs.Prelude.{◌≡◌, ◌+◌, ◌*◌, ◌/◌}
+use Rattle.common.specs.Words.{refl, sym, ap, ◌∙◌, Bool, true, false, cond, ⊎_elim, ℕ, zero, suc}
+use Rattle.std.specs.Prelude.{◌≤◌, ◌<◌}
+use Rattle.common.specs.Words.{◌∣◌}
 use Rattle.common.specs.Words.{le_refl}
 use Rattle.common.specs.Words.{le_trans, one-mul, mul_comm, mul_assoc, le-mul_of_pos_right, le-div_iff_mul-le, le_of_dvd, pos_of_dvd_of_pos}
 use Rattle.common.specs.Words.{dvd_refl, dvd_trans, dvd-mul_right, dvd-mul_left, mul-div_cancel', div-mul_cancel, mul-dvd-mul_left}

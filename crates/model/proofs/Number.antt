@@ -1,7 +1,9 @@
 -- Message numbers: equation 2 is one more than the count of the messages before. The numbers rise with the order, and each from 1 on
 -- belongs to exactly one message, whose deadline is the least tick with so many messages up to it.
-use Rattle.common.specs.Words.{ℕ, suc, ◌+◌, ◌-◌, ◌*◌, ◌<◌, ◌≤◌, arith, ℕ_discrete, Bool, true, false, ◌↔◌, ⊎_elim}
-use Rattle.common.specs.Words.{◌≡◌, refl, sym}
+use Rattle.std.specs.Prelude.{◌+◌, ◌-◌, ◌*◌, ◌<◌, ◌≤◌, ◌↔◌}
+use Rattle.common.specs.Words.{ℕ, suc, arith, ℕ_discrete, Bool, true, false, ⊎_elim}
+use Rattle.std.specs.Prelude.{◌≡◌}
+use Rattle.common.specs.Words.{refl, sym}
 use Rattle.common.specs.Words.{subst, ◌∙◌, eqb}
 use Rattle.common.specs.Totals.{only, sum, only_le, only_eq, only_most, only_zero, sum_le, sum_bound, sum_ext, sum_add}
 use Rattle.common.specs.Totals.{sum_one, sum_zero, sum_at, only_self, only_other, crossing}

@@ -1,6 +1,7 @@
 -- Document 01's values that are reckoned by hand and marked p1 to p12, and behind them four of request b: one table, proved by one claim
 -- about the definitions.
-use Rattle.common.specs.Words.{ℕ, ◌≤◌, arith, Bool, true, false, ◌&&◌, List, [], ◌∷◌, ◌↔◌, refl, T, eqb, get_or}
+use Rattle.std.specs.Prelude.{◌≤◌, ◌&&◌, ◌∷◌, ◌↔◌}
+use Rattle.common.specs.Words.{ℕ, arith, Bool, true, false, List, [], refl, T, eqb, get_or}
 use Rattle.common.specs.Totals.{sum, most}
 use Rattle.common.proofs.Rows.{every}
 use Rattle.model.specs.Model.{Queue, Sender, count, has_deadline, precedes, up_to, due_at, followers, number, first, last}

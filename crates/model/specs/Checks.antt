@@ -1,5 +1,6 @@
 -- A test that computes and gives `Valid`: for a table that is written out.
-use Rattle.common.specs.Words.{ℕ, Bool, true, ◌&&◌, ◌≡◌, leb, ltb, leb-true, ltb-true}
+use Rattle.std.specs.Prelude.{◌&&◌, ◌≡◌}
+use Rattle.common.specs.Words.{ℕ, Bool, true, leb, ltb, leb-true, ltb-true}
 use Rattle.common.specs.Tests.{both}
 use Rattle.common.proofs.Rows.{every, every_at}
 use Rattle.model.specs.Model.{Queue, Valid}

@@ -1,6 +1,7 @@
 -- What answering a block comes to: the desk, the memory and the carry are those of the lines of the bytes that were used, one after
 -- another, and where every answer could be written no byte of the block is left. Leans on feed's answers to lines.
-use Rattle.common.specs.Words.{ℕ, ◌<◌, ◌≤◌, true, List, [], ◌≡◌, length, take}
+use Rattle.std.specs.Prelude.{◌<◌, ◌≤◌, ◌≡◌}
+use Rattle.common.specs.Words.{ℕ, true, List, [], length, take}
 use Rattle.feed.specs.Answers.{Console, console_of, console_after}
 use Rattle.lines.specs.Lines.{fed, ended}
 use Rattle.mulchpenny.specs.declared.Turn.{Turn}

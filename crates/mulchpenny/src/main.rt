@@ -3,7 +3,8 @@
 // `console`; what is read and written no contract can say, and .ci/programs tests it.
 #![tactic(auto)]
 
-ghost use Rattle.common.specs.Words.{◌≡◌, ◌<◌, ◌≤◌, false, length, take};
+ghost use Rattle.std.specs.Prelude.{◌≡◌, ◌<◌, ◌≤◌};
+ghost use Rattle.common.specs.Words.{false, length, take};
 ghost use Rattle.desk.specs.Desk.{SoundDesk};
 ghost use Rattle.feed.specs.Feed.{enough};
 ghost use Rattle.feed.specs.Answers.{console_of};

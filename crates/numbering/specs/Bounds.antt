@@ -1,5 +1,6 @@
 -- What a usable queue of a plan allows, from its columns: its rows can be divided by, and its counts fit 64 bits up to the last tick.
-use Rattle.common.specs.Words.{ℕ, ◌*◌, ◌<◌, ◌≤◌, get_or}
+use Rattle.std.specs.Prelude.{◌*◌, ◌<◌, ◌≤◌}
+use Rattle.common.specs.Words.{ℕ, get_or}
 use Rattle.model.specs.Model.{up_to}
 use Rattle.plan.specs.Limits.{task_limit, last_tick}
 use Rattle.plan.specs.Plan.{queue_at, Usable}

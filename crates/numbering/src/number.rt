@@ -1,6 +1,6 @@
 // Equation 1, equation 2, and the numbers that bound a window, of a plan's queue. Callers have tested the plan (`Usable`) and stay within
 // the last tick.
-ghost use Rattle.common.specs.Words.{◌≡◌, ◌≤◌};
+ghost use Rattle.std.specs.Prelude.{◌≡◌, ◌≤◌};
 ghost use Rattle.model.specs.Model.{Sender, deadline_of, released, receiver_period, up_to, number, first, last};
 ghost use Rattle.calendar.specs.Calendar.{message};
 ghost use Rattle.plan.specs.Limits.{last_tick};

@@ -1,6 +1,7 @@
 // The way back from a number: its deadline, looked for up to the last tick, its sender and the sender's job. Callers have tested the
 // plan (`Usable`) and that the number's deadline is within the last tick.
-ghost use Rattle.common.specs.Words.{◌≡◌, ◌-◌, ◌/◌, ◌<◌, ◌≤◌, get_or};
+ghost use Rattle.std.specs.Prelude.{◌≡◌, ◌-◌, ◌/◌, ◌<◌, ◌≤◌};
+ghost use Rattle.common.specs.Words.{get_or};
 ghost use Rattle.model.specs.Model.{up_to};
 ghost use Rattle.calendar.specs.Calendar.{job};
 ghost use Rattle.plan.specs.Limits.{task_limit, last_tick};

@@ -1,5 +1,6 @@
 // What a lookup can reach: a job whose tick is not past the last one (rule 11).
-ghost use Rattle.common.specs.Words.{◌≡◌, ◌<◌, ◌≤◌, ltb};
+ghost use Rattle.std.specs.Prelude.{◌≡◌, ◌<◌, ◌≤◌};
+ghost use Rattle.common.specs.Words.{ltb};
 ghost use Rattle.model.specs.Model.{due, released, receiver_period, deadline_of};
 ghost use Rattle.plan.specs.Limits.{longest_period, last_tick};
 ghost use Rattle.plan.specs.Plan.{queue_at, Usable};

@@ -1,6 +1,8 @@
 -- Laws of other declarations: what the code does token by token is what the rule says, and how far it goes.
-use Rattle.common.specs.Words.{ℕ, suc, ◌<◌, arith, Bool, true, false, true≢false, cond, List, [], ◌∷◌, ◌++◌, length, ◌≡◌}
-use Rattle.common.specs.Words.{refl, sym, ap, ◌∙◌, eqb, eq-eqb, ne_eqb, ◌&&◌, ◌⊎◌, inl, inr}
+use Rattle.std.specs.Prelude.{◌<◌, ◌∷◌, ◌++◌, ◌≡◌}
+use Rattle.common.specs.Words.{ℕ, suc, arith, Bool, true, false, true≢false, cond, List, [], length}
+use Rattle.std.specs.Prelude.{◌&&◌, ◌⊎◌}
+use Rattle.common.specs.Words.{refl, sym, ap, ◌∙◌, eqb, eq-eqb, ne_eqb, inl, inr}
 use Rattle.words.specs.Kinds.{ENDED, END, SEMICOLON, APPLIES}
 use Rattle.tokens.specs.Tokens.{Token}
 use Rattle.tokens.specs.Laws.{cases}

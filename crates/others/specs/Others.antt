@@ -1,5 +1,6 @@
 -- AADL.md, sections 2 to 4: other declarations, which are skipped, and the properties in them that would reach a thread from outside.
-use Rattle.common.specs.Words.{ℕ, Bool, true, false, cond, ◌&&◌, List, [], ◌∷◌, ◌++◌, eqb, leb}
+use Rattle.std.specs.Prelude.{◌&&◌, ◌∷◌, ◌++◌}
+use Rattle.common.specs.Words.{ℕ, Bool, true, false, cond, List, [], eqb, leb}
 use Rattle.words.specs.Kinds.{ENDED, END, SEMICOLON, APPLIES, BECOMES, ADDS, PERIOD, PRIORITY}
 use Rattle.words.specs.Kinds.{ABSTRACT, BUS, DATA, DEVICE, FEATURE, MEMORY, PROCESS, PROCESSOR, PROPERTY, SUBPROGRAM, SYSTEM, VIRTUAL}
 use Rattle.tokens.specs.Tokens.{Token}

@@ -1,5 +1,6 @@
 -- Other declarations declare nothing, so nothing has to be paid for them.
-use Rattle.common.specs.Words.{ℕ, Bool, List, [], ◌∷◌, ◌≡◌, refl}
+use Rattle.std.specs.Prelude.{◌∷◌, ◌≡◌}
+use Rattle.common.specs.Words.{ℕ, Bool, List, [], refl}
 use Rattle.tokens.specs.Tokens.{Token}
 use Rattle.tokens.specs.Laws.{cases}
 use Rattle.steps.specs.declared.Fault.{Fault}

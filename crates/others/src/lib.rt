@@ -1,7 +1,8 @@
 // Other declarations, which are skipped up to their end; what they say about threads from outside is noted.
 #![tactic(auto)]
 
-ghost use Rattle.common.specs.Words.{◌≡◌, ℕ, List, [], not};
+ghost use Rattle.std.specs.Prelude.{◌≡◌};
+ghost use Rattle.common.specs.Words.{ℕ, List, [], not};
 ghost use Rattle.steps.specs.declared.Fault.{Fault};
 ghost use Rattle.steps.specs.Faults.{no_fault, worst};
 ghost use Rattle.steps.specs.Steps.{◌⟫◌};

@@ -1,5 +1,6 @@
 -- Laws of phrases: how far each rule goes, and rules in a row and choices as the code makes them.
-use Rattle.common.specs.Words.{ℕ, arith, true, false, true≢false, List, ◌≡◌, refl, sym, ◌∙◌, eq-eqb, ne_eqb}
+use Rattle.std.specs.Prelude.{◌≡◌}
+use Rattle.common.specs.Words.{ℕ, arith, true, false, true≢false, List, refl, sym, ◌∙◌, eq-eqb, ne_eqb}
 use Rattle.words.specs.Kinds.{ENDED, COLON, SCOPE, DOT, COMMA, SEMICOLON, OPEN-BRACE, ANNEXED, ARROW, DELAYING, ANNEX, DATA}
 use Rattle.words.specs.Kinds.{EVENT, IN, NONE, OUT, PORT}
 use Rattle.tokens.specs.Tokens.{Token}

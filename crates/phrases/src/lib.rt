@@ -1,7 +1,7 @@
 // Rules that declare nothing by themselves: classifiers, paths, directions, kinds of ports, what is skipped.
 #![tactic(auto)]
 
-ghost use Rattle.common.specs.Words.{◌≡◌};
+ghost use Rattle.std.specs.Prelude.{◌≡◌};
 ghost use Rattle.steps.specs.Steps.{◌⟫◌, the, is, optional};
 ghost use Rattle.words.specs.Kinds.{OPEN-BRACE};
 ghost use Rattle.steps.specs.Lifted.{lift};

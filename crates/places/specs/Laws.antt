@@ -1,5 +1,6 @@
 -- Each queue's size in the list of sizes, its bound, and the total of the list.
-use Rattle.common.specs.Words.{ℕ, ◌<◌, ◌≤◌, arith, ◌&&◌, ◌≡◌, ◌∙◌, lt-ltb, ltb-true, ltb, get_or}
+use Rattle.std.specs.Prelude.{◌<◌, ◌≤◌, ◌&&◌, ◌≡◌}
+use Rattle.common.specs.Words.{ℕ, arith, ◌∙◌, lt-ltb, ltb-true, ltb, get_or}
 use Rattle.common.specs.Totals.{only, sum, only_most, sum_ext}
 use Rattle.common.specs.Table.{table_at}
 use Rattle.common.proofs.Rows.{first_bad_is}

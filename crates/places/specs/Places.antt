@@ -1,6 +1,7 @@
 -- Which queue is too long, and the sizes and places of all queues: the least sizes, and their running sums. The least size of one queue is
 -- the model's.
-use Rattle.common.specs.Words.{ℕ, ◌&&◌, List, ltb, get_or}
+use Rattle.std.specs.Prelude.{◌&&◌}
+use Rattle.common.specs.Words.{ℕ, List, ltb, get_or}
 use Rattle.common.specs.Terms.{only, sum, first_bad, table}
 use Rattle.model.specs.Model.{slots}
 use Rattle.plan.specs.Limits.{queue_limit}

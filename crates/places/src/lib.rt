@@ -1,7 +1,8 @@
 // The sizes and places of all queues of a table that has passed rules 1 to 3: one queue after another, over what `sizing` reckons of each.
 #![tactic(auto)]
 
-ghost use Rattle.common.specs.Words.{◌≡◌, ℕ, ◌<◌, ◌≤◌, ltb, get_or};
+ghost use Rattle.std.specs.Prelude.{◌≡◌, ◌<◌, ◌≤◌};
+ghost use Rattle.common.specs.Words.{ℕ, ltb, get_or};
 ghost use Rattle.common.specs.Totals.{only, sum};
 ghost use Rattle.plan.specs.Limits.{queue_limit};
 ghost use Rattle.plan.specs.Sound.{Checked};

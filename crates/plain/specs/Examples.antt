@@ -1,5 +1,6 @@
 -- Plain texts that were reckoned by hand.
-use Rattle.common.specs.Words.{◌∷◌, ◌++◌, ◌≡◌, refl}
+use Rattle.std.specs.Prelude.{◌∷◌, ◌++◌, ◌≡◌}
+use Rattle.common.specs.Words.{refl}
 use Rattle.words.specs.Letters.{letters}
 use Rattle.plain.specs.Plain.{lower, two, three, string_by, close_by, annex_rest, begun, step_of, plain_by, mark_rest, plain_of}
 use Rattle.plain.specs.Comments.{blanked_by, blanked}

@@ -2,7 +2,8 @@
 -- is: letters are small, a comment is blanks, a string is its first quote and blanks, an ANNEX is the letter A and blanks. No capital is
 -- left that could be taken for that A; a quote that begins no string is to every rule what a string is.
 -- What is long to reckon stands in a `let`, which is reckoned only where a test picks it.
-use Rattle.common.specs.Words.{ℕ, zero, suc, ◌+◌, Bool, true, false, cond, ◌&&◌, List, [], ◌∷◌, eqb, leb, get_or, drop}
+use Rattle.std.specs.Prelude.{◌+◌, ◌&&◌, ◌∷◌}
+use Rattle.common.specs.Words.{ℕ, zero, suc, Bool, true, false, cond, List, [], eqb, leb, get_or, drop}
 use Rattle.plain.specs.declared.Step.{Step}
 
 -- "Words compare without regard to letter case"

@@ -2,7 +2,8 @@
 // first quote and blanks, an annex the letter A and blanks. Nothing here is refused.
 #![tactic(auto)]
 
-ghost use Rattle.common.specs.Words.{◌≡◌, ◌+◌, ◌-◌, ◌≤◌, ◌<◌, length, drop, get_or};
+ghost use Rattle.std.specs.Prelude.{◌≡◌, ◌+◌, ◌-◌, ◌≤◌, ◌<◌};
+ghost use Rattle.common.specs.Words.{length, drop, get_or};
 ghost use Rattle.plain.specs.Plain.{lower, two, three, string_by, close_by, annex_rest, brace, begun, step_of, mark_rest, plain_of};
 ghost use Rattle.plain.specs.Close.{quote_width, ends_string, ended_by, last_close};
 

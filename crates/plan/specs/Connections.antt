@@ -1,6 +1,7 @@
 -- A square and a plan that say the same of every counted queue are judged alike by rule 3. Planning's table and the square that rule 7
 -- makes of a plan are such squares.
-use Rattle.common.specs.Words.{ℕ, ◌<◌, ◌≤◌, arith, Bool, not, List, ◌≡◌, get_or}
+use Rattle.std.specs.Prelude.{◌<◌, ◌≤◌, ◌≡◌}
+use Rattle.common.specs.Words.{ℕ, arith, Bool, not, List, get_or}
 use Rattle.common.proofs.Rows.{some, first_bad, every_same, first_bad_same}
 use Rattle.plan.specs.Limits.{task_limit, queue_limit}
 use Rattle.plan.specs.Plan.{sends_into}

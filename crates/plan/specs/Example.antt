@@ -1,6 +1,7 @@
 -- A plan that is sound: document 01's Table A, tasks 5/5, 7/7 and 10/10, the first two sending to the third, with its 9 slots.
 -- One slot more in its place, or none for the queue, and it is sound no longer.
-use Rattle.common.specs.Words.{ℕ, true, false, ◌∷◌, ◌≡◌, refl, replicate}
+use Rattle.std.specs.Prelude.{◌∷◌, ◌≡◌}
+use Rattle.common.specs.Words.{ℕ, true, false, refl, replicate}
 use Rattle.common.specs.Totals.{sum}
 use Rattle.common.proofs.Rows.{every, some, first_bad}
 use Rattle.plan.specs.Rules.{one_to, counts_good, task_good, only_tasks_send, queue_good, place_good, places_good, checked_plan, sound_plan}

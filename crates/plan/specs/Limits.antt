@@ -1,5 +1,6 @@
 -- "Limits, written once and belonging to the plan". The code's constants are held to these by `limits_agree`.
-use Rattle.common.specs.Words.{ℕ, ◌*◌, ◌+◌}
+use Rattle.std.specs.Prelude.{◌*◌, ◌+◌}
+use Rattle.common.specs.Words.{ℕ}
 
 abbrev pub task_limit : ℕ
 task_limit = 16

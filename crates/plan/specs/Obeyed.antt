@@ -1,6 +1,7 @@
 -- What it means that a rule of document 01's table is obeyed, in plain facts. Each test of Rules passes exactly when its facts hold
 -- (laws of Facts and Sound). There are definitions only.
-use Rattle.common.specs.Words.{ℕ, ◌<◌, ◌≤◌, Bool, true, ◌≡◌, get_or}
+use Rattle.std.specs.Prelude.{◌<◌, ◌≤◌, ◌≡◌}
+use Rattle.common.specs.Words.{ℕ, Bool, true, get_or}
 use Rattle.common.specs.Terms.{sum}
 use Rattle.plan.specs.Limits.{task_limit, queue_limit, longest_period, most_slots}
 use Rattle.plan.specs.Queues.{sends_into, size_at, place_at, slots_of}

@@ -1,5 +1,6 @@
 -- What inner functions ask of a plan and are lent of it. A plan's queues, sizes and places are those of Queues, passed on.
-use Rattle.common.specs.Words.{ℕ, ◌<◌, ◌≤◌, Bool, List, get_or}
+use Rattle.std.specs.Prelude.{◌<◌, ◌≤◌}
+use Rattle.common.specs.Words.{ℕ, Bool, List, get_or}
 use Rattle.model.specs.Model.{Valid}
 use Rattle.plan.specs.Limits.{task_limit, queue_limit, longest_period}
 use Rattle.plan.specs.declared.Plan.{Plan}

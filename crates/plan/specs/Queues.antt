@@ -1,5 +1,6 @@
 -- A plan as the model sees it: queue q of a plan, its size and its place. There are definitions only.
-use Rattle.common.specs.Words.{ℕ, ◌+◌, ◌*◌, Bool, false, get_or, replicate}
+use Rattle.std.specs.Prelude.{◌+◌, ◌*◌}
+use Rattle.common.specs.Words.{ℕ, Bool, false, get_or, replicate}
 use Rattle.common.specs.Terms.{sum}
 use Rattle.model.specs.Model.{Queue}
 use Rattle.plan.specs.Limits.{task_limit, queue_limit, cell_limit}

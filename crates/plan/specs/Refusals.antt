@@ -1,5 +1,6 @@
 -- Document 01's refusals: the number of each rule, and the answer of a chain of tests.
-use Rattle.common.specs.Words.{ℕ, Bool, true, false, cond, List, [], ◌∷◌, ◌⊎◌, ◌≡◌}
+use Rattle.std.specs.Prelude.{◌∷◌, ◌⊎◌, ◌≡◌}
+use Rattle.common.specs.Words.{ℕ, Bool, true, false, cond, List, []}
 use Rattle.plan.specs.declared.refusal.Rule.{Rule}
 use Rattle.plan.specs.declared.refusal.Rule.TheVariants.{TaskOrQueueCount, PeriodOrDeadline, ReceiverOrSender, HyperperiodTooLong}
 use Rattle.plan.specs.declared.refusal.Rule.TheVariants.{TooManyMessages, TooManySlots, UnsoundPlan, ShortMemory, NoSuchSender}

@@ -1,6 +1,7 @@
 -- Rules 1, 2, 3, 7 and 9 of document 01's table, each as the test that a table or a plan has to pass.
 -- Rules 1 to 3 are stated over counts, columns and connections, so that planning's table and a plan are tested by the same words.
-use Rattle.common.specs.Words.{ℕ, Bool, not, ◌&&◌, ◌||◌, List, leb, ltb, eqb, get_or}
+use Rattle.std.specs.Prelude.{◌&&◌, ◌||◌}
+use Rattle.common.specs.Words.{ℕ, Bool, not, List, leb, ltb, eqb, get_or}
 use Rattle.common.specs.Terms.{sum, every, some, first_bad}
 use Rattle.plan.specs.Limits.{task_limit, queue_limit, longest_period, most_slots}
 use Rattle.plan.specs.Queues.{sends_into, size_at, place_at, slots_of}

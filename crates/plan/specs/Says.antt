@@ -1,6 +1,7 @@
 -- What an answer says in document 01's numbers: a code, and values. A refusal has the console's code for it, 7f; its values are the number of
 -- its line in the table, and the row that it names.
-use Rattle.common.specs.Words.{ℕ, List, [], ◌∷◌}
+use Rattle.std.specs.Prelude.{◌∷◌}
+use Rattle.common.specs.Words.{ℕ, List, []}
 use Rattle.plan.specs.Refusals.{number_of}
 use Rattle.plan.specs.declared.refusal.Refusal.{Refusal}
 

@@ -1,5 +1,6 @@
 -- The square of yes and no, "which of 16 tasks send into which of 8 queues", as rows, one for each queue. A plan keeps it flat.
-use Rattle.common.specs.Words.{ℕ, ◌+◌, ◌*◌, ◌<◌, Bool, false, List, [], ◌≡◌, get_or}
+use Rattle.std.specs.Prelude.{◌+◌, ◌*◌, ◌<◌, ◌≡◌}
+use Rattle.common.specs.Words.{ℕ, Bool, false, List, [], get_or}
 use Rattle.common.specs.Table.{table, table_at}
 use Rattle.plan.specs.Limits.{task_limit, queue_limit}
 use Rattle.plan.specs.Plan.{sends_into}

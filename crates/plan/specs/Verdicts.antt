@@ -1,7 +1,8 @@
 -- A chain of refusals read as facts. Either every line passed, and the good answer is given, or the first line that applies stopped the
 -- call, and its refusal is given. A call's answer, state and memory are each chosen by the same lines, so the verdict on the lines
 -- decides all three.
-use Rattle.common.specs.Words.{ℕ, arith, Bool, true, false, cond, List, [], ◌∷◌, ◌++◌, ◌⊎◌, inl, inr, ◌≡◌, refl, ap}
+use Rattle.std.specs.Prelude.{◌∷◌, ◌++◌, ◌⊎◌, ◌≡◌}
+use Rattle.common.specs.Words.{ℕ, arith, Bool, true, false, cond, List, [], inl, inr, refl, ap}
 use Rattle.common.specs.Words.{◌∙◌}
 use Rattle.plan.specs.Refusals.{Line, judged}
 pub use Rattle.plan.specs.Refusals.{Stopped, verdict}

@@ -1,5 +1,5 @@
 // The refusals: a rule of document 01's table, and beside it the row that a refusal names.
-ghost use Rattle.common.specs.Words.{◌≡◌};
+ghost use Rattle.std.specs.Prelude.{◌≡◌};
 ghost use Rattle.plan.specs.Refusals.{number_of};
 
 // In the order of their numbers, 1 to 15.

@@ -1,6 +1,7 @@
 -- What planning answers and the plan that it makes, on every input: rules 1 to 6 in document 01's order, the least sizes, and the
 -- places as running sums.
-use Rattle.common.specs.Words.{ℕ, ◌<◌, ◌≤◌, Bool, true, not, ◌&&◌, List, [], ◌∷◌, ◌≡◌, ltb}
+use Rattle.std.specs.Prelude.{◌<◌, ◌≤◌, ◌&&◌, ◌∷◌, ◌≡◌}
+use Rattle.common.specs.Words.{ℕ, Bool, true, not, List, [], ltb}
 use Rattle.common.specs.Terms.{sum}
 use Rattle.model.specs.Model.{hyperperiod, slots}
 use Rattle.plan.specs.Limits.{longest_hyperperiod, most_slots}

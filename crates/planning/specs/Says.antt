@@ -1,5 +1,6 @@
 -- What planning answers in document 01's numbers. The console's line for a plan is start's, so an acceptance has code 0 here and no values.
-use Rattle.common.specs.Words.{ℕ, Bool, cond, not, ◌&&◌, List, [], ◌∷◌, ◌++◌, ◌≡◌, ap, ◌∙◌, ltb}
+use Rattle.std.specs.Prelude.{◌&&◌, ◌∷◌, ◌++◌, ◌≡◌}
+use Rattle.common.specs.Words.{ℕ, Bool, cond, not, List, [], ap, ◌∙◌, ltb}
 use Rattle.common.specs.Totals.{sum}
 use Rattle.plan.specs.Limits.{most_slots}
 use Rattle.plan.specs.Rules.{counts_good, bad_task, bad_queue}

@@ -1,5 +1,6 @@
 -- The contract of `make_plan` determines the outcome: two results that both meet it are equal. Planning has no state and no memory.
-use Rattle.common.specs.Words.{ℕ, Bool, List, ◌≡◌, sym, ◌∙◌}
+use Rattle.std.specs.Prelude.{◌≡◌}
+use Rattle.common.specs.Words.{ℕ, Bool, List, sym, ◌∙◌}
 use Rattle.planning.specs.Planning.{plan_of}
 use Rattle.planning.specs.declared.Planned.{Planned}
 

@@ -1,7 +1,7 @@
 // Planning: from a task table to a plan with the least number of slots, or to the first refusal of rules 1 to 6.
 #![tactic(auto)]
 
-ghost use Rattle.common.specs.Words.{◌≡◌};
+ghost use Rattle.std.specs.Prelude.{◌≡◌};
 ghost use Rattle.plan.specs.Refusals.{named};
 ghost use Rattle.plan.specs.Sound.{Checked};
 ghost use Rattle.places.specs.Places.{long_queue};

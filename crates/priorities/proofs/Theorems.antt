@@ -1,6 +1,7 @@
 -- Rows may be sorted (request b): two tables that are permutations of one another's rows number alike, and need the same sizes, where the
 -- priorities tell the senders apart; rules 4 to 6 then judge them alike. It leans on the laws of Permuted and Order.
-use Rattle.common.specs.Words.{ℕ, ◌<◌, List, ◌≡◌, refl, sym, ◌∙◌}
+use Rattle.std.specs.Prelude.{◌<◌, ◌≡◌}
+use Rattle.common.specs.Words.{ℕ, List, refl, sym, ◌∙◌}
 use Rattle.model.specs.Model.{Valid, Sender, number, hyperperiod, messages, slots}
 use Rattle.plan.specs.Queues.{queue_at, size_at}
 use Rattle.plan.specs.Rules.{places_good, checked_plan, sound_plan}

@@ -1,6 +1,7 @@
 -- What request b's promises speak of: rows in another order, senders of one priority, and senders that priorities tell apart.
 -- There are definitions only.
-use Rattle.common.specs.Words.{ℕ, ◌<◌, List, ◌≡◌, get_or}
+use Rattle.std.specs.Prelude.{◌<◌, ◌≡◌}
+use Rattle.common.specs.Words.{ℕ, List, get_or}
 use Rattle.model.specs.Model.{Queue, Sender, deadline_of}
 use Rattle.plan.specs.Queues.{sends_into}
 use Rattle.plan.specs.declared.Plan.{Plan}

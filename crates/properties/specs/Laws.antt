@@ -1,5 +1,6 @@
 -- Laws of the properties that are read: which one stands at a step, what is said of it, and how far the rules go.
-use Rattle.common.specs.Words.{ℕ, ◌<◌, ◌≤◌, arith, Bool, true, false, true≢false, cond, List, [], ◌∷◌, ◌≡◌, refl, sym}
+use Rattle.std.specs.Prelude.{◌<◌, ◌≤◌, ◌∷◌, ◌≡◌}
+use Rattle.common.specs.Words.{ℕ, arith, Bool, true, false, true≢false, cond, List, [], refl, sym}
 use Rattle.common.specs.Words.{ap, ◌∙◌, eqb, ltb, get_or, set, eq-eqb, ne_eqb}
 use Rattle.common.specs.Words.{lt-ltb, le-ltb, ltb-true, eqb-true}
 use Rattle.words.specs.Kinds.{SCOPE, BECOMES, SEMICOLON, NONE, OPEN-BRACE, CLOSE-BRACE, PROPERTIES}

@@ -1,5 +1,6 @@
 -- Properties declare nothing, so nothing has to be paid for them; a section's list pays for itself.
-use Rattle.common.specs.Words.{ℕ, arith, List, [], ◌≡◌, refl, eqb, get_or}
+use Rattle.std.specs.Prelude.{◌≡◌}
+use Rattle.common.specs.Words.{ℕ, arith, List, [], refl, eqb, get_or}
 use Rattle.words.specs.Kinds.{NONE, OPEN-BRACE, CLOSE-BRACE, PROPERTIES}
 use Rattle.tokens.specs.Tokens.{Token}
 use Rattle.tokens.specs.Laws.{cases}

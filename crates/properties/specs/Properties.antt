@@ -1,5 +1,6 @@
 -- AADL.md, section 4: the properties that are read.
-use Rattle.common.specs.Words.{ℕ, Bool, false, cond, List, [], ◌∷◌, eqb, ltb, get_or, set}
+use Rattle.std.specs.Prelude.{◌∷◌}
+use Rattle.common.specs.Words.{ℕ, Bool, false, cond, List, [], eqb, ltb, get_or, set}
 use Rattle.words.specs.Kinds.{PERIOD, DEADLINE, DISPATCH-PROTOCOL, DISPATCH-OFFSET, PRIORITY, TIMING, TIMING-PROPERTIES, THREAD-PROPERTIES}
 use Rattle.words.specs.Kinds.{COMMUNICATION-PROPERTIES, PERIODIC, DELAYED, SCOPE, BECOMES, SEMICOLON, NONE, OPEN-BRACE, CLOSE-BRACE, PROPERTIES}
 use Rattle.tokens.specs.Tokens.{Token}

@@ -1,5 +1,6 @@
 -- Properties declare nothing, and no Priority over 255 is kept; a section's list declares rows with all their columns where its rule does.
-use Rattle.common.specs.Words.{ℕ, zero, suc, ◌≤◌, List, [], ◌∷◌, ◌≡◌, refl, ap, eqb, get_or, set}
+use Rattle.std.specs.Prelude.{◌≤◌, ◌∷◌, ◌≡◌}
+use Rattle.common.specs.Words.{ℕ, zero, suc, List, [], refl, ap, eqb, get_or, set}
 use Rattle.words.specs.Kinds.{NONE, OPEN-BRACE, CLOSE-BRACE, PROPERTIES}
 use Rattle.tokens.specs.Tokens.{Token}
 use Rattle.tokens.specs.Laws.{cases}

@@ -1,7 +1,8 @@
 // The properties that are read: which one an association gives, the forms of their values, and blocks and sections of them.
 #![tactic(auto)]
 
-ghost use Rattle.common.specs.Words.{◌≡◌, ◌<◌, ℕ, List, true};
+ghost use Rattle.std.specs.Prelude.{◌≡◌, ◌<◌};
+ghost use Rattle.common.specs.Words.{ℕ, List, true};
 ghost use Rattle.steps.specs.Lifted.{lift, holds};
 ghost use Rattle.times.specs.Sums.{Forms};
 ghost use Rattle.rows.specs.States.{state_of, does};

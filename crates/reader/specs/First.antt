@@ -1,7 +1,9 @@
 -- Promise 1: the first place decides. A refusal (number, place) means that no fault stands at an earlier place and none with a lower number
 -- at the same one; a table means that there is no fault. Number 0 is no fault.
-use Rattle.common.specs.Words.{ℕ, zero, suc, ◌<◌, ◌≤◌, arith, pos_of_ne-zero, Bool, true, false, true≢false, cond, List, [], ◌∷◌}
-use Rattle.common.specs.Words.{◌⊎◌, inl, inr, ⊎_elim, ◌≡◌, refl, sym, ap, ◌∙◌, eqb, eqb-true, eqb-false, length}
+use Rattle.std.specs.Prelude.{◌<◌, ◌≤◌, ◌∷◌}
+use Rattle.common.specs.Words.{ℕ, zero, suc, arith, pos_of_ne-zero, Bool, true, false, true≢false, cond, List, []}
+use Rattle.std.specs.Prelude.{◌⊎◌, ◌≡◌}
+use Rattle.common.specs.Words.{inl, inr, ⊎_elim, refl, sym, ap, ◌∙◌, eqb, eqb-true, eqb-false, length}
 use Rattle.common.specs.Words.{get_or}
 use Rattle.common.specs.Tests.{lt_or_le, clash}
 use Rattle.steps.specs.declared.Fault.{Fault}
@@ -139,7 +141,7 @@ module _ (text : List ℕ) where
             ⊎_elim (λ (r : ((worst no_fault (faults_of text)).number ≡ 0) × ((read_of text).answer ≡ Sound)).
             true≢false (ap is_sound (sym r.1 ∙ h)))
             (λ (r : (0 < (worst no_fault (faults_of text)).number)
-                × ((read_of text).answer ≡ Refused (refusal (worst no_fault (faults_of text))))).
+            × ((read_of text).answer ≡ Refused (refusal (worst no_fault (faults_of text))))).
             let n : (worst no_fault (faults_of text)).number ≡ 0 = ap (λ (f : Fault). f.number) e in omega (arith, r.0)) (read_by text)
 
     -- none stands at an earlier place, and none with a lower number at the same one

@@ -1,7 +1,9 @@
 -- Laws of the reader: what ends a reading, what the state after a reading says, and the answer by the least fault.
-use Rattle.common.specs.Words.{ℕ, zero, suc, ◌<◌, ◌≤◌, min, arith, ⊎_elim, Bool, true, false, true≢false, ◌&&◌, List, []}
-use Rattle.common.specs.Words.{◌∷◌, ◌++◌}
-use Rattle.common.specs.Words.{◌≡◌, refl, sym, ap, ◌∙◌, eqb, eq-eqb, ne_eqb, leb, leb-true, ltb, length, length-append, take, take_all}
+use Rattle.std.specs.Prelude.{◌<◌, ◌≤◌, ◌&&◌}
+use Rattle.common.specs.Words.{ℕ, zero, suc, min, arith, ⊎_elim, Bool, true, false, true≢false, List, []}
+use Rattle.std.specs.Prelude.{◌∷◌, ◌++◌}
+use Rattle.std.specs.Prelude.{◌≡◌}
+use Rattle.common.specs.Words.{refl, sym, ap, ◌∙◌, eqb, eq-eqb, ne_eqb, leb, leb-true, ltb, length, length-append, take, take_all}
 use Rattle.common.specs.Words.{length-take-le, get_or, get_or-replicate}
 use Rattle.common.specs.Tests.{lt_or_le}
 use Rattle.plain.specs.Plain.{plain_of}

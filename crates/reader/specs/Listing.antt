@@ -1,5 +1,6 @@
 -- Promise 5: Listing 1 of source 000, as printed less its line numbers, gives Table A. The definitions compute it.
-use Rattle.common.specs.Words.{ℕ, true, false, List, [], ◌∷◌, ◌++◌, ◌≡◌, refl, replicate}
+use Rattle.std.specs.Prelude.{◌∷◌, ◌++◌, ◌≡◌}
+use Rattle.common.specs.Words.{ℕ, true, false, List, [], refl, replicate}
 use Rattle.words.specs.Letters.{letters}
 use Rattle.findings.specs.declared.Answer.TheVariants.{Sound}
 use Rattle.findings.specs.declared.Table.{Table}
@@ -73,29 +74,29 @@ pub listing_1_is_table_a : read_of listing1 ≡ answered Sound table_a
 unfolding table sum_by number_by padded words_by same listed rank kind_of lower two three string_by close_by annex_rest begun step_of plain_by
     mark_rest plain_of
     behind sort_of run word_shape number_width sign_shape shape_of tokens_by from worse worst any the name own optional many_by many part_kind
-        value_by
+    value_by
     values_by list_by record_by part_by part_of value values scoped assigns association associations block rest_kind rest scopes dotted classifier
-        join_kind
+    join_kind
     path paths annex direction port_kind link_kind place arrow nothing section_kind skip_kind skipped label maybe_label maybe_classifier word_and_rest
     process_row type_row implementation_row port_row thread_row link_row optionally repeat_by repeat merged apart adding with_byte with_bytes filled
-        time_of
+    time_of
     time priority_of priority named_by set_of property_by property_at read_in right_by form owned note_in skipped_in association_in associations_in
-        block_in
+    block_in
     maybe_block_in none_or properties_in direction_of port_head port other_feature feature_of feature features type_in implementation_in thread_of
-        thread
+    thread
     other_component subcomponent_of subcomponent subcomponents ends timing_by declared link other_kind connection_of label_in connection
-        connection_kind
+    connection_kind
     connections maybe_extends type_head type_end thread_type implementation_head implementation_end implementation thread_implementation
     process_implementation list_kind allowed list_in properties_of section sections outside_kind reaching waiting_after noted_at last_kind passing
-        path_end
+    path_end
     other declaration_kind thread_by chosen declaration none_or_some clause_kind clause part parts packaged piece_kind piece pieces finished
-        whole_text
+    whole_text
     spelled meant same_meaning turned stirred named lanes_of hash_of name_byte found rows_in declared_key key_by keys_of type_named
-        implementation_of way_by
+    implementation_of way_by
     way first_in property_of port_of ends_of again_faults thread_faults out_faults in_faults twice_faults join_faults end_faults link_faults
-        row_faults
+    row_faults
     faults_below process_faults judged chosen_below threads_of queues_of position receiver_of joins table_of read_from faults_in faults_of rule_of
-        answer_by
+    answer_by
     answer_plain read_of Rattle.declarations.specs.Sections.listed Rattle.others.specs.Others.other_kind Rattle.texts.specs.Texts.part_kind
     Rattle.ways.specs.Ways.ends Rattle.kit.specs.Kit.figure_of
 listing_1_is_table_a = refl

@@ -1,6 +1,8 @@
 -- AADL.md, section 6: a text's faults, and what it is answered with.
-use Rattle.common.specs.Words.{ℕ, ◌+◌, ◌*◌, ◌^◌, ◌<◌, ◌≤◌, Bool, cond, ◌&&◌, List, [], ◌∷◌}
-use Rattle.common.specs.Words.{◌++◌, eqb, ltb, leb, length, take}
+use Rattle.std.specs.Prelude.{◌+◌, ◌*◌, ◌^◌, ◌<◌, ◌≤◌, ◌&&◌, ◌∷◌}
+use Rattle.common.specs.Words.{ℕ, Bool, cond, List, []}
+use Rattle.std.specs.Prelude.{◌++◌}
+use Rattle.common.specs.Words.{eqb, ltb, leb, length, take}
 use Rattle.plain.specs.Plain.{plain_of}
 use Rattle.tokens.specs.Tokens.{from}
 use Rattle.steps.specs.declared.Fault.{Fault}
@@ -87,7 +89,7 @@ tree_room = 58256
 unfoldable pub enough : ℕ → ℕ → ℕ → ℕ → ℕ → ℕ → Bool
 enough plain rows declared connected queued types =
     leb most_bytes plain && (leb rows_room rows && (leb tree_room declared &&
-        (leb tree_room connected && (leb tree_room queued && leb most_rows types))))
+    (leb tree_room connected && (leb tree_room queued && leb most_rows types))))
 
 unfoldable pub answer : Bool → List ℕ → Read
 answer room text = cond room (read_of text) (answered NoRoom no_table)

@@ -1,5 +1,6 @@
 -- Promises 2 and 3: letter case makes no difference, nor do comments but to places.
-use Rattle.common.specs.Words.{ℕ, zero, suc, ◌≤◌, List, [], ◌∷◌, map, ◌≡◌, refl, ap, ◌∙◌, sym, ltb, length, take, take_all}
+use Rattle.std.specs.Prelude.{◌≤◌, ◌∷◌, ◌≡◌}
+use Rattle.common.specs.Words.{ℕ, zero, suc, List, [], map, refl, ap, ◌∙◌, sym, ltb, length, take, take_all}
 use Rattle.common.specs.Words.{arith}
 use Rattle.plain.specs.Plain.{lower, plain_of}
 use Rattle.plain.specs.Case.{plain_lower, lower_length}

@@ -1,5 +1,6 @@
 -- The contract of the reader's call determines its answer: two results that both meet it are equal.
-use Rattle.common.specs.Words.{ℕ, Bool, List, ◌≡◌, sym, ◌∙◌}
+use Rattle.std.specs.Prelude.{◌≡◌}
+use Rattle.common.specs.Words.{ℕ, Bool, List, sym, ◌∙◌}
 use Rattle.findings.specs.declared.Read.{Read}
 use Rattle.reader.specs.Reader.{answer}
 

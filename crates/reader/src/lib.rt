@@ -1,7 +1,8 @@
 // From an AADL text to its table. A text of any bytes is answered, with any memory that is lent.
 #![tactic(auto)]
 
-ghost use Rattle.common.specs.Words.{◌≡◌, ◌≤◌, true, length, min, take};
+ghost use Rattle.std.specs.Prelude.{◌≡◌, ◌≤◌};
+ghost use Rattle.common.specs.Words.{true, length, min, take};
 ghost use Rattle.steps.specs.Faults.{worst};
 ghost use Rattle.steps.specs.Lifted.{lift};
 ghost use Rattle.index.specs.Index.{rows_in, Indexed};

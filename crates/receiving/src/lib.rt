@@ -2,7 +2,8 @@
 // The columns are lent, as to a send.
 #![tactic(auto)]
 
-ghost use Rattle.common.specs.Words.{◌≡◌, get_or};
+ghost use Rattle.std.specs.Prelude.{◌≡◌};
+ghost use Rattle.common.specs.Words.{get_or};
 ghost use Rattle.plan.specs.Plan.{lent_plan};
 ghost use Rattle.plan.specs.Rules.{sound_plan};
 ghost use Rattle.window.specs.Window.{Remembers};

@@ -1,5 +1,6 @@
 -- "line and column counted from 1": where the byte behind some bytes stands.
-use Rattle.common.specs.Words.{ℕ, ◌+◌, cond, List, [], ◌∷◌, eqb}
+use Rattle.std.specs.Prelude.{◌+◌, ◌∷◌}
+use Rattle.common.specs.Words.{ℕ, cond, List, [], eqb}
 use Rattle.report.specs.declared.found.Point.{Point}
 
 -- a line feed ends its line

@@ -1,5 +1,6 @@
 // What was expected at a place, in words, by a refusal's `why`: the kind of a token, or what is wrong.
-ghost use Rattle.common.specs.Words.{◌≤◌, length};
+ghost use Rattle.std.specs.Prelude.{◌≤◌};
+ghost use Rattle.common.specs.Words.{length};
 
 use crate::found::token_at;
 use crate::put::put_padded;

@@ -1,5 +1,6 @@
 // What stands at a place of a text, for people: its line and column, and the token that begins there.
-ghost use Rattle.common.specs.Words.{◌≡◌, ◌≤◌, ◌<◌, length, take};
+ghost use Rattle.std.specs.Prelude.{◌≡◌, ◌≤◌, ◌<◌};
+ghost use Rattle.common.specs.Words.{length, take};
 ghost use Rattle.report.specs.Places.{past, point_of};
 
 use crate::put::put_padded;

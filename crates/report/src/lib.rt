@@ -7,7 +7,8 @@ mod planned; // planned.rt: planning's refusals in words
 mod put; // put.rt: bytes behind each other
 mod wording; // wording.rt: the words for what was found and what was expected
 
-ghost use Rattle.common.specs.Words.{◌≤◌, length};
+ghost use Rattle.std.specs.Prelude.{◌≤◌};
+ghost use Rattle.common.specs.Words.{length};
 
 use expected::put_expected;
 use findings::{Refusal, rule_number};

@@ -1,5 +1,6 @@
 // Planning's refusals in words: what the table has, and what planning wants of it. Rows are counted from 0, as the console counts them.
-ghost use Rattle.common.specs.Words.{◌≤◌, length};
+ghost use Rattle.std.specs.Prelude.{◌≤◌};
+ghost use Rattle.common.specs.Words.{length};
 
 use crate::put::{NUMBERS, put_filled, put_rule};
 use findings::Table;

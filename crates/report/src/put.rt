@@ -1,5 +1,6 @@
 // Bytes behind each other in lent memory. What does not fit is left out: no answer lies behind the memory's end.
-ghost use Rattle.common.specs.Words.{◌≤◌, ◌<◌, length};
+ghost use Rattle.std.specs.Prelude.{◌≤◌, ◌<◌};
+ghost use Rattle.common.specs.Words.{length};
 
 use listing::least;
 

@@ -1,5 +1,6 @@
 -- What is declared is paid for by its text: a row has 9 bytes at least.
-use Rattle.common.specs.Words.{ℕ, zero, suc, ◌+◌, ◌-◌, ◌*◌, ◌≤◌, arith, Bool, List, [], ◌≡◌, length, length-append}
+use Rattle.std.specs.Prelude.{◌+◌, ◌-◌, ◌*◌, ◌≤◌, ◌≡◌}
+use Rattle.common.specs.Words.{ℕ, zero, suc, arith, Bool, List, [], length, length-append}
 use Rattle.tokens.specs.Tokens.{Token}
 use Rattle.tokens.specs.Laws.{cases}
 use Rattle.steps.specs.declared.Fault.{Fault}

@@ -1,5 +1,6 @@
 -- What a text declares, in text order: a row of ten numbers for each. A name is the place where it stands, 0 where none stands.
-use Rattle.common.specs.Words.{ℕ, ◌+◌, ◌*◌, List, [], ◌∷◌, cond, leb, length, get_or, sets}
+use Rattle.std.specs.Prelude.{◌+◌, ◌*◌, ◌∷◌}
+use Rattle.common.specs.Words.{ℕ, List, [], cond, leb, length, get_or, sets}
 
 abbrev pub Row : Type 0
 Row = List ℕ

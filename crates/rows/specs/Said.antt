@@ -1,5 +1,6 @@
 -- Rules that say more than how the text goes on: the properties that they find, what they declare, and the faults that they note.
-use Rattle.common.specs.Words.{ℕ, zero, suc, Bool, cond, List, [], ◌∷◌, ◌++◌, length, eqb, get_or}
+use Rattle.std.specs.Prelude.{◌∷◌, ◌++◌}
+use Rattle.common.specs.Words.{ℕ, zero, suc, Bool, cond, List, [], length, eqb, get_or}
 use Rattle.common.specs.Table.{table}
 use Rattle.tokens.specs.Tokens.{Token}
 use Rattle.steps.specs.declared.Fault.{Fault}

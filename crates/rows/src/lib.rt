@@ -1,7 +1,8 @@
 // What a text declares, in memory that the caller lends, and what is carried through the rules that read it.
 #![tactic(auto)]
 
-ghost use Rattle.common.specs.Words.{◌≡◌, ℕ, List, length};
+ghost use Rattle.std.specs.Prelude.{◌≡◌};
+ghost use Rattle.common.specs.Words.{ℕ, List, length};
 ghost use Rattle.steps.specs.Steps.{the};
 ghost use Rattle.steps.specs.Lifted.{lift, first_kind, second_kind};
 ghost use Rattle.rows.specs.Rows.{Row, store, with_row};

@@ -2,7 +2,8 @@
 // Rule 9, which sends and the lookup of a number ask, is here too.
 #![tactic(auto)]
 
-ghost use Rattle.common.specs.Words.{◌≡◌, false, ◌&&◌, ◌+◌, ◌*◌, ◌≤◌, ltb, get_or};
+ghost use Rattle.std.specs.Prelude.{◌≡◌, ◌&&◌, ◌+◌, ◌*◌, ◌≤◌};
+ghost use Rattle.common.specs.Words.{false, ltb, get_or};
 ghost use Rattle.plan.specs.Limits.{task_limit, queue_limit};
 ghost use Rattle.plan.specs.Rules.{one_to, counts_good, task_good, bad_task, may_send, only_tasks_send, first_sender, queue_good, bad_queue};
 

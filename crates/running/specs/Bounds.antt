@@ -1,5 +1,6 @@
 -- Slots and numbers of an accepted call stay within their bounds.
-use Rattle.common.specs.Words.{ℕ, ◌+◌, ◌*◌, ◌^◌, ◌<◌, ◌≤◌, arith, mod-lt, div-mul-le_self, List, length}
+use Rattle.std.specs.Prelude.{◌+◌, ◌*◌, ◌^◌, ◌<◌, ◌≤◌}
+use Rattle.common.specs.Words.{ℕ, arith, mod-lt, div-mul-le_self, List, length}
 use Rattle.model.specs.Model.{receiver_period, up_to, last}
 use Rattle.model.proofs.Number.{up_to_mono}
 use Rattle.plan.specs.Limits.{task_limit, last_tick, payload_bytes, slot_bytes}
@@ -31,7 +32,7 @@ module _ {p : Plan} {m : List ℕ} (g : Ground p m) (q : ℕ) (counted : q < p.q
   -- a window's numbers up to the last tick
   pub window_small : (t : ℕ) → t ≤ last_tick →
       (last (queue_at p q) (receiving_job (queue_at p q) t) ≤ up_to (queue_at p q) last_tick)
-          × (up_to (queue_at p q) last_tick ≤ task_limit * last_tick)
+      × (up_to (queue_at p q) last_tick ≤ task_limit * last_tick)
   unfolding last
   window_small t h = (
     up_to_mono (queue_at p q) (usable g.sound q counted).valid _ last_tick (omega (arith, div-mul-le_self t (receiver_period (queue_at p q)))),

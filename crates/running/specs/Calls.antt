@@ -1,7 +1,8 @@
 -- What start, send and receive answer, and what they leave of the memory and of a state, on every input. Of a state a send looks at its
 -- tick, `before`, and at the job after the last one that the task sent into the queue, `unsent`; a receive at its tick and at the queue's
 -- reading place, `unread`. Each call's lines of the table of refusals are the crate judge's.
-use Rattle.common.specs.Words.{ℕ, ◌+◌, ◌*◌, ◌/◌, max, cond, List, ◌≡◌, ltb, eqb, get_or, set}
+use Rattle.std.specs.Prelude.{◌+◌, ◌*◌, ◌/◌, ◌≡◌}
+use Rattle.common.specs.Words.{ℕ, max, cond, List, ltb, eqb, get_or, set}
 use Rattle.model.specs.Model.{Queue, number, first, last, sender_of}
 use Rattle.calendar.specs.Calendar.{tick, message, slot}
 use Rattle.plan.specs.Limits.{task_limit, last_tick, payload_bytes}

@@ -1,6 +1,7 @@
 -- By verdict: what a call answers and leaves once its tests have been made, and that an answer which is no refusal is given only where
 -- all of them were passed.
-use Rattle.common.specs.Words.{ℕ, arith, List, ◌≡◌, refl, sym, ◌∙◌}
+use Rattle.std.specs.Prelude.{◌≡◌}
+use Rattle.common.specs.Words.{ℕ, arith, List, refl, sym, ◌∙◌}
 use Rattle.calendar.specs.Calendar.{message, slot}
 use Rattle.plan.specs.Limits.{payload_bytes}
 use Rattle.plan.specs.Plan.{queue_at, slots_of}

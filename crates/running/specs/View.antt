@@ -1,5 +1,6 @@
 -- The view of a receive answer: which bytes, and where they lie.
-use Rattle.common.specs.Words.{cond, Bool, ◌&&◌, List, [], ℕ, ◌+◌, leb, eqb, length}
+use Rattle.std.specs.Prelude.{◌&&◌, ◌+◌}
+use Rattle.common.specs.Words.{cond, Bool, List, [], ℕ, leb, eqb, length}
 use Rattle.std.specs.Borrow.{Bor}
 use Rattle.plan.specs.Limits.{payload_bytes, slot_bytes}
 use Rattle.slots.specs.Slots.{slot_at, payload_in}

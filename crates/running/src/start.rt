@@ -1,5 +1,5 @@
 // Start: the plan's slots cleared.
-ghost use Rattle.common.specs.Words.{◌≡◌};
+ghost use Rattle.std.specs.Prelude.{◌≡◌};
 ghost use Rattle.running.specs.Calls.{start_answer, start_memory};
 
 use crate::Started;

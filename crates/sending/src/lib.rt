@@ -3,7 +3,8 @@
 // state's tick is handed in and comes back beside the answer.
 #![tactic(auto)]
 
-ghost use Rattle.common.specs.Words.{◌≡◌, true, ◌<◌, ◌≤◌};
+ghost use Rattle.std.specs.Prelude.{◌≡◌, ◌<◌, ◌≤◌};
+ghost use Rattle.common.specs.Words.{true};
 ghost use Rattle.calendar.specs.Calendar.{tick, message};
 ghost use Rattle.plan.specs.Limits.{last_tick};
 ghost use Rattle.plan.specs.Plan.{lent_plan};

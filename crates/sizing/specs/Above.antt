@@ -1,5 +1,6 @@
 -- What a message asks for, row by row: the messages up to it without those up to the horizon.
-use Rattle.common.specs.Words.{ℕ, ◌+◌, ◌-◌, ◌<◌, ◌≤◌, arith, le_trans, Bool, true, false, cond, ◌≡◌, refl, sym, ◌∙◌}
+use Rattle.std.specs.Prelude.{◌+◌, ◌-◌, ◌<◌, ◌≤◌, ◌≡◌}
+use Rattle.common.specs.Words.{ℕ, arith, le_trans, Bool, true, false, cond, refl, sym, ◌∙◌}
 use Rattle.common.specs.Totals.{only, sum, sum_add, sum_ext}
 use Rattle.model.specs.Model.{Queue, Valid, count, precedes, row_up_to, up_to}
 use Rattle.model.proofs.Count.{count_mono}

@@ -1,5 +1,6 @@
 -- A least size is small: equation 3 bounds it, and periods are bounded.
-use Rattle.common.specs.Words.{ℕ, ◌+◌, ◌*◌, ◌/◌, ◌≤◌, arith, div-le_self, mul-le-mul_right}
+use Rattle.std.specs.Prelude.{◌+◌, ◌*◌, ◌/◌, ◌≤◌}
+use Rattle.common.specs.Words.{ℕ, arith, div-le_self, mul-le-mul_right}
 use Rattle.common.specs.Totals.{only, only_most, sum_bound, most_le}
 use Rattle.model.specs.Model.{slots}
 use Rattle.model.specs.Source.{reach, equation3}

@@ -1,6 +1,7 @@
 -- The jobs that need not be asked: as long as the horizon stays where it is, a later job of a sender asks for no less. So a loop that has
 -- the most of some jobs asks the last one that is released before the horizon moves, and goes on behind it.
-use Rattle.common.specs.Words.{ℕ, ◌+◌, ◌<◌, ◌≤◌, max, arith, le_refl, mul-le-mul_right, inl, ⊎_elim, ◌≡◌}
+use Rattle.std.specs.Prelude.{◌+◌, ◌<◌, ◌≤◌, ◌≡◌}
+use Rattle.common.specs.Words.{ℕ, max, arith, le_refl, mul-le-mul_right, inl, ⊎_elim}
 use Rattle.common.specs.Tests.{lt_or_le}
 use Rattle.common.specs.Totals.{most, most_le}
 use Rattle.model.specs.Model.{Queue, Valid, Sender, release_of, number}

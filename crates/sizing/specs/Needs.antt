@@ -1,6 +1,7 @@
 -- `horizon`, `need` and `row_slots` of the model, over columns that have no receiver: two numbers stand in its place, its period, here
 -- `chart`, and how long its messages are wanted. With a plan's own columns and numbers they are those of its queue.
-use Rattle.common.specs.Words.{ℕ, ◌+◌, ◌-◌, ◌/◌, ◌<◌, ◌≤◌, div-mul-le_self, div-eq_of_lt-le, lt-div-mul-add, arith, ◌≡◌}
+use Rattle.std.specs.Prelude.{◌+◌, ◌-◌, ◌/◌, ◌<◌, ◌≤◌, ◌≡◌}
+use Rattle.common.specs.Words.{ℕ, div-mul-le_self, div-eq_of_lt-le, lt-div-mul-add, arith}
 use Rattle.common.specs.Words.{refl}
 use Rattle.common.specs.Words.{ap}
 use Rattle.common.specs.Totals.{most}

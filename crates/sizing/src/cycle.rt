@@ -1,5 +1,6 @@
 // A queue's hyperperiod and the messages in it, of a table that has passed rules 1 to 3.
-ghost use Rattle.common.specs.Words.{◌≡◌, cond, ◌&&◌, ◌≤◌, ◌/◌};
+ghost use Rattle.std.specs.Prelude.{◌≡◌, ◌&&◌, ◌≤◌, ◌/◌};
+ghost use Rattle.common.specs.Words.{cond};
 ghost use Rattle.common.specs.Totals.{only};
 ghost use Rattle.model.specs.Model.{lcm, hyperperiod, messages};
 ghost use Rattle.calendar.specs.Calendar.{capped};

@@ -1,5 +1,5 @@
 // The slots that a message asks for: those of the messages up to it that are not outdated when it is sent, itself among them.
-ghost use Rattle.common.specs.Words.{◌≡◌, ◌+◌, ◌-◌, ◌^◌, ◌<◌, ◌≤◌};
+ghost use Rattle.std.specs.Prelude.{◌≡◌, ◌+◌, ◌-◌, ◌^◌, ◌<◌, ◌≤◌};
 ghost use Rattle.model.specs.Model.{count, up_to};
 ghost use Rattle.plan.specs.Limits.{last_tick};
 ghost use Rattle.counting.specs.Columns.{columns_at, ordered_at, Lent, number_due};

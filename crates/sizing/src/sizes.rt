@@ -1,7 +1,8 @@
 // The least number of slots of a queue: the most that a job of the second hyperperiod asks for. The loop over the jobs is lent the
 // columns of the plan, because a plan by value would be copied for every job; it is told the receiver's period, `chart`, and how long its
 // messages are wanted.
-ghost use Rattle.common.specs.Words.{ℕ, ◌≡◌, ◌+◌, ◌*◌, ◌<◌, ◌≤◌, max};
+ghost use Rattle.std.specs.Prelude.{◌≡◌, ◌+◌, ◌*◌, ◌<◌, ◌≤◌};
+ghost use Rattle.common.specs.Words.{ℕ, max};
 ghost use Rattle.common.specs.Totals.{only};
 ghost use Rattle.model.specs.Model.{Sender, slots_over};
 ghost use Rattle.calendar.specs.Calendar.{tick};

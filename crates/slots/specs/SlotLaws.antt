@@ -1,7 +1,8 @@
 -- What is read from a memory after a message was stored in it, or after its slots were cleared: laws of `stored` and `cleared`, over the
 -- payload's width w. They lean on the laws of a run of stores (common's Stores).
-use Rattle.common.specs.Words.{◌≡◌, refl, sym, ◌∙◌, ◌⊎◌, inl, inr, ⊎_elim, List, [], ◌∷◌, ◌++◌, ℕ, ◌+◌, ◌*◌}
-use Rattle.common.specs.Words.{◌/◌, ◌%◌, ◌≤◌, ◌<◌, ◌^◌}
+use Rattle.std.specs.Prelude.{◌≡◌, ◌⊎◌, ◌∷◌, ◌++◌, ◌+◌, ◌*◌}
+use Rattle.common.specs.Words.{refl, sym, ◌∙◌, inl, inr, ⊎_elim, List, [], ℕ}
+use Rattle.std.specs.Prelude.{◌/◌, ◌%◌, ◌≤◌, ◌<◌, ◌^◌}
 use Rattle.common.specs.Words.{add-zero}
 use Rattle.common.specs.Words.{div-add-mod', div-div-eq-div-mul, mul-le-mul_right, arith, lit<, length, get_or, drop, replicate, length-append}
 use Rattle.common.specs.Words.{length-drop, length-replicate, get_or-replicate, get_or-append, sets, length-sets, drop_at, drop-set-lt}

@@ -1,6 +1,7 @@
 -- Slots in lent memory, over the payload's width w: "A slot is the message number as 8 bytes, high byte first, then the payload;
 -- number 0 means never written."
-use Rattle.common.specs.Words.{List, [], ◌∷◌, ◌++◌, ℕ, ◌+◌, ◌*◌, ◌/◌, ◌%◌, get_or, drop, replicate, sets}
+use Rattle.std.specs.Prelude.{◌∷◌, ◌++◌, ◌+◌, ◌*◌, ◌/◌, ◌%◌}
+use Rattle.common.specs.Words.{List, [], ℕ, get_or, drop, replicate, sets}
 use Rattle.common.specs.Terms.{part}
 
 -- "Message n lies in slot n mod L", within its queue of L slots

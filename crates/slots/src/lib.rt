@@ -4,7 +4,8 @@
 
 pub mod places; // places.rt: which slot is a message's
 
-ghost use Rattle.common.specs.Words.{◌≡◌, ◌+◌, ◌^◌, ◌≤◌, ◌<◌, length, sets};
+ghost use Rattle.std.specs.Prelude.{◌≡◌, ◌+◌, ◌^◌, ◌≤◌, ◌<◌};
+ghost use Rattle.common.specs.Words.{length, sets};
 ghost use Rattle.calendar.specs.Calendar.{message};
 ghost use Rattle.plan.specs.Limits.{payload_bytes, slot_bytes};
 ghost use Rattle.slots.specs.Slots.{bytes_of, joined, slot_at, number_in, stored, cleared};

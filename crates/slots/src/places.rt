@@ -1,5 +1,5 @@
 // Where a message lies: slot n mod L within its queue, and the queue's place before it.
-ghost use Rattle.common.specs.Words.{◌≡◌, ◌+◌, ◌^◌, ◌<◌, ◌≤◌};
+ghost use Rattle.std.specs.Prelude.{◌≡◌, ◌+◌, ◌^◌, ◌<◌, ◌≤◌};
 ghost use Rattle.calendar.specs.Calendar.{slot};
 ghost use Rattle.slots.specs.Slots.{slot_of, slot_from};
 

@@ -3,7 +3,7 @@
 
 pub mod square; // square.rt: which task sends into which queue, by rows
 
-ghost use Rattle.common.specs.Words.{◌≡◌, ◌≤◌};
+ghost use Rattle.std.specs.Prelude.{◌≡◌, ◌≤◌};
 ghost use Rattle.plan.specs.Limits.{queue_limit};
 ghost use Rattle.plan.specs.Rules.{place_good, places_good, sound_plan};
 

@@ -1,6 +1,6 @@
 // The square of yes and no as an array of arrays: row q says which tasks send into queue q. A plan keeps it flat, and the connection
 // tests of rule 3 take it by rows.
-ghost use Rattle.common.specs.Words.{◌≡◌, ◌<◌};
+ghost use Rattle.std.specs.Prelude.{◌≡◌, ◌<◌};
 ghost use Rattle.plan.specs.Limits.{queue_limit};
 ghost use Rattle.plan.specs.Square.{row_of, square_of};
 

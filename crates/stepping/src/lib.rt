@@ -2,7 +2,8 @@
 // defines it. An inner function: an answer that names a number has to be one that can be stepped on (`CanStep`), as every look's is.
 #![tactic(auto)]
 
-ghost use Rattle.common.specs.Words.{◌≡◌, ◌+◌, ◌<◌, ◌≤◌, set};
+ghost use Rattle.std.specs.Prelude.{◌≡◌, ◌+◌, ◌<◌, ◌≤◌};
+ghost use Rattle.common.specs.Words.{set};
 ghost use Rattle.calendar.specs.Calendar.{tick};
 ghost use Rattle.plan.specs.Limits.{queue_limit};
 ghost use Rattle.running.specs.Calls.{read_tick, read_places};

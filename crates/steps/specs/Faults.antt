@@ -1,5 +1,6 @@
 -- AADL.md, section 6: refusals. A fault has a number, a place, and a word for people: what was expected, or what is wrong.
-use Rattle.common.specs.Words.{ℕ, List, [], ◌∷◌, cond, eqb, ltb}
+use Rattle.std.specs.Prelude.{◌∷◌}
+use Rattle.common.specs.Words.{ℕ, List, [], cond, eqb, ltb}
 use Rattle.steps.specs.declared.Fault.{Fault}
 
 abbrev pub fault : ℕ → ℕ → ℕ → Fault

@@ -1,6 +1,7 @@
 -- Rules of a grammar: a rule is given the tokens from a place on, and says how they go on behind what it reads, or stops at a fault. Rules
 -- in a row, a choice by the next token, a rule any number of times, and the rules of one token.
-use Rattle.common.specs.Words.{ℕ, zero, suc, Bool, cond, List, [], ◌∷◌, eqb, length, drop}
+use Rattle.std.specs.Prelude.{◌∷◌}
+use Rattle.common.specs.Words.{ℕ, zero, suc, Bool, cond, List, [], eqb, length, drop}
 use Rattle.words.specs.Words.{is_name, NAME}
 use Rattle.words.specs.Kinds.{ENDED}
 use Rattle.words.specs.Letters.{same}

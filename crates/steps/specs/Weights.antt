@@ -1,6 +1,8 @@
 -- Tokens weigh no more than the bytes that they stand in.
-use Rattle.common.specs.Words.{ℕ, zero, suc, ◌+◌, ◌-◌, ◌%◌, ◌<◌, ◌≤◌, arith, Bool, true, false, ◌&&◌, List, [], ◌∷◌}
-use Rattle.common.specs.Words.{◌≡◌, refl, mod-lt}
+use Rattle.std.specs.Prelude.{◌+◌, ◌-◌, ◌%◌, ◌<◌, ◌≤◌, ◌&&◌, ◌∷◌}
+use Rattle.common.specs.Words.{ℕ, zero, suc, arith, Bool, true, false, List, []}
+use Rattle.std.specs.Prelude.{◌≡◌}
+use Rattle.common.specs.Words.{refl, mod-lt}
 use Rattle.common.specs.Words.{eqb, leb, leb-true, ne_eqb, length, take, drop, get_or, length-drop, length-take-le}
 use Rattle.common.specs.Tests.{and_left, and_right}
 use Rattle.words.specs.Letters.{words_by, same, same_eq}

@@ -1,7 +1,8 @@
 // Rules of a grammar over a plain text: what a rule says, and the rules of one token.
 #![tactic(auto)]
 
-ghost use Rattle.common.specs.Words.{◌≡◌, ◌≤◌, length};
+ghost use Rattle.std.specs.Prelude.{◌≡◌, ◌≤◌};
+ghost use Rattle.common.specs.Words.{length};
 ghost use Rattle.words.specs.Letters.{same};
 ghost use Rattle.words.specs.Words.{is_name};
 ghost use Rattle.tokens.specs.Tokens.{from};

@@ -2,7 +2,7 @@
 // reader: to prove it, nothing that reads a text is loaded.
 #![tactic(auto)]
 
-ghost use Rattle.common.specs.Words.{◌≡◌};
+ghost use Rattle.std.specs.Prelude.{◌≡◌};
 ghost use Rattle.tableplans.specs.TablePlans.{planned, planning_says, unplanned, with_plan, import_by};
 
 use findings::{Read, Table};

@@ -1,6 +1,7 @@
 -- The table that planning is handed, as a plan that has no sizes yet: "queues and task rows beyond the counts are ignored and are zeros
 -- in a plan we make".
-use Rattle.common.specs.Words.{ℕ, ◌/◌, ◌%◌, Bool, ◌&&◌, List, ltb, get_or, replicate}
+use Rattle.std.specs.Prelude.{◌/◌, ◌%◌, ◌&&◌}
+use Rattle.common.specs.Words.{ℕ, Bool, List, ltb, get_or, replicate}
 use Rattle.common.specs.Terms.{only, table}
 use Rattle.plan.specs.Limits.{task_limit, queue_limit, cell_limit}
 use Rattle.plan.specs.Square.{entry}

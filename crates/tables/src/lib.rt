@@ -1,7 +1,7 @@
 // The table that planning is handed, as a plan that has no sizes yet, with zeros beyond the counts.
 #![tactic(auto)]
 
-ghost use Rattle.common.specs.Words.{◌≡◌, ◌&&◌};
+ghost use Rattle.std.specs.Prelude.{◌≡◌, ◌&&◌};
 ghost use Rattle.common.specs.Totals.{only};
 ghost use Rattle.plan.specs.Limits.{task_limit, queue_limit};
 ghost use Rattle.tables.specs.Table.{counted, flat, tabled};

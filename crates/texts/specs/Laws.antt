@@ -1,5 +1,6 @@
 -- Laws of whole texts: what the code does one after another and by choice is what the rules say, and how far they go.
-use Rattle.common.specs.Words.{arith, true, false, true≢false, List, ◌≡◌, refl, sym, ap, ◌∙◌, eqb, eq-eqb, ne_eqb, ◌&&◌}
+use Rattle.std.specs.Prelude.{◌≡◌, ◌&&◌}
+use Rattle.common.specs.Words.{arith, true, false, true≢false, List, refl, sym, ap, ◌∙◌, eqb, eq-eqb, ne_eqb}
 use Rattle.words.specs.Kinds.{ENDED, THREAD, PROCESS, IMPLEMENTATION, GROUP, ANNEX, PACKAGE, WITH, PROPERTIES, NONE}
 use Rattle.tokens.specs.Tokens.{Token}
 use Rattle.tokens.specs.Laws.{cases}

@@ -1,5 +1,6 @@
 -- What a whole text declares is paid for by its bytes: a text has 9 bytes at least for each row.
-use Rattle.common.specs.Words.{ℕ, ◌*◌, ◌≤◌, arith, ◌&&◌, List, eqb, length}
+use Rattle.std.specs.Prelude.{◌*◌, ◌≤◌, ◌&&◌}
+use Rattle.common.specs.Words.{ℕ, arith, List, eqb, length}
 use Rattle.words.specs.Kinds.{ENDED, THREAD, PROCESS, IMPLEMENTATION, GROUP, ANNEX, PACKAGE, WITH, PROPERTIES, NONE}
 use Rattle.tokens.specs.Tokens.{from}
 use Rattle.tokens.specs.Laws.{cases}

@@ -1,5 +1,6 @@
 -- AADL.md, section 2: declarations, packages and the whole text.
-use Rattle.common.specs.Words.{ℕ, Bool, true, cond, ◌&&◌, List, eqb}
+use Rattle.std.specs.Prelude.{◌&&◌}
+use Rattle.common.specs.Words.{ℕ, Bool, true, cond, List, eqb}
 use Rattle.words.specs.Kinds.{ENDED, THREAD, PROCESS, IMPLEMENTATION, GROUP, ANNEX, PACKAGE, PUBLIC, PRIVATE, WITH, PROPERTIES, NONE}
 use Rattle.tokens.specs.Tokens.{Token}
 use Rattle.steps.specs.Steps.{Step, On, ◌⟫◌, next, second, is, any, the, unfit}

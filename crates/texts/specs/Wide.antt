@@ -1,5 +1,6 @@
 -- Every row that a text declares has all its columns, and no Priority over 255.
-use Rattle.common.specs.Words.{[], refl, ◌&&◌, eqb}
+use Rattle.std.specs.Prelude.{◌&&◌}
+use Rattle.common.specs.Words.{[], refl, eqb}
 use Rattle.words.specs.Kinds.{THREAD, PROCESS, IMPLEMENTATION, GROUP, ANNEX, PACKAGE}
 use Rattle.tokens.specs.Laws.{cases}
 use Rattle.steps.specs.Steps.{next, second, is, any}

@@ -1,7 +1,8 @@
 // A whole text: packages and declarations up to its end.
 #![tactic(auto)]
 
-ghost use Rattle.common.specs.Words.{◌≡◌, ◌&&◌, eqb};
+ghost use Rattle.std.specs.Prelude.{◌≡◌, ◌&&◌};
+ghost use Rattle.common.specs.Words.{eqb};
 ghost use Rattle.words.specs.Kinds.{PROCESS, IMPLEMENTATION};
 ghost use Rattle.steps.specs.Steps.{◌⟫◌};
 ghost use Rattle.steps.specs.Lifted.{lift};

@@ -1,5 +1,6 @@
 -- Laws of subcomponents: what the code does one after another is what the rules say, and how far they go.
-use Rattle.common.specs.Words.{ℕ, arith, Bool, true, false, cond, List, ◌≡◌, refl, sym, ap, ◌∙◌}
+use Rattle.std.specs.Prelude.{◌≡◌}
+use Rattle.common.specs.Words.{ℕ, arith, Bool, true, false, cond, List, refl, sym, ap, ◌∙◌}
 use Rattle.words.specs.Kinds.{ENDED, THREAD, DOT, SEMICOLON}
 use Rattle.tokens.specs.Tokens.{Token}
 use Rattle.tokens.specs.Laws.{cases}
@@ -30,7 +31,7 @@ module _ (p n : ℕ) (s : State) where
       ∙ ap (λ (r : State). does r (put (λ qs. thread_row p n t i qs)))
       (does_then s (λ ps ts. quiet classifier ps ts ⨟ maybe_block_in of_thread) (quiet (the SEMICOLON)))
       ∙ does_then_at s (λ ps ts. quiet classifier ps ts ⨟ maybe_block_in of_thread ⨟ quiet (the SEMICOLON))
-          (put (λ qs. thread_row p n t i qs))
+      (put (λ qs. thread_row p n t i qs))
       (λ ts. put (λ qs. thread_row p n (type_in ts) (implementation_in ts) qs))
       (λ ts w. rw (e, f, w))
 

@@ -1,7 +1,7 @@
 // Subcomponents of a process implementation: its threads are declared, others are skipped.
 #![tactic(auto)]
 
-ghost use Rattle.common.specs.Words.{◌≡◌};
+ghost use Rattle.std.specs.Prelude.{◌≡◌};
 ghost use Rattle.rows.specs.States.{state_of, does};
 ghost use Rattle.threads.specs.Threads.{thread_of, thread, other_component, subcomponent_of, subcomponent, subcomponents};
 

@@ -1,5 +1,6 @@
 -- AADL.md's own times and priorities, and some beside them, reckoned by hand.
-use Rattle.common.specs.Words.{ℕ, List, [], ◌∷◌, ◌≡◌, refl}
+use Rattle.std.specs.Prelude.{◌∷◌, ◌≡◌}
+use Rattle.common.specs.Words.{ℕ, List, [], refl}
 use Rattle.words.specs.Letters.{letters}
 use Rattle.words.specs.Words.{NAME}
 use Rattle.words.specs.Kinds.{ENDED, NUMBER, SEMICOLON, END, MS, SEC}

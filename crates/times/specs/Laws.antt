@@ -1,8 +1,11 @@
 -- Laws of times: sums that stop at the most are the exact ones as far as the most, the forms that the code reads are those of the definition,
 -- and a time goes on by a token at least.
-use Rattle.common.specs.Words.{ℕ, zero, suc, ◌+◌, ◌-◌, ◌<◌, ◌≤◌, min, arith, Bool, true, false, cond, ◌&&◌, List, []}
-use Rattle.common.specs.Words.{◌∷◌, drop}
-use Rattle.common.specs.Words.{◌≡◌, refl, sym, ap, ◌∙◌, eqb, eqb-true, leb-true, eq-eqb, ne_eqb, le-leb, lt-leb}
+use Rattle.std.specs.Prelude.{◌+◌, ◌-◌, ◌<◌, ◌≤◌, ◌&&◌}
+use Rattle.common.specs.Words.{ℕ, zero, suc, min, arith, Bool, true, false, cond, List, []}
+use Rattle.std.specs.Prelude.{◌∷◌}
+use Rattle.common.specs.Words.{drop}
+use Rattle.std.specs.Prelude.{◌≡◌}
+use Rattle.common.specs.Words.{refl, sym, ap, ◌∙◌, eqb, eqb-true, leb-true, eq-eqb, ne_eqb, le-leb, lt-leb}
 use Rattle.common.specs.Stores.{part}
 use Rattle.words.specs.Words.{is_name, first_name}
 use Rattle.words.specs.Kinds.{ENDED, NUMBER, MS, SEC}

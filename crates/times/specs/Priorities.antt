@@ -1,5 +1,6 @@
 -- AADL.md, section 4: priorities. "NUMBER without a point".
-use Rattle.common.specs.Words.{ℕ, false, true, cond, List, [], ◌∷◌, eqb, leb, drop}
+use Rattle.std.specs.Prelude.{◌∷◌}
+use Rattle.common.specs.Words.{ℕ, false, true, cond, List, [], eqb, leb, drop}
 use Rattle.words.specs.Kinds.{NUMBER}
 use Rattle.tokens.specs.Tokens.{Token}
 use Rattle.steps.specs.Faults.{fault}

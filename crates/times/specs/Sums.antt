@@ -1,5 +1,6 @@
 -- What the code reckons of a time: the same with sums that stop at the most, and a form as the definitions say it.
-use Rattle.common.specs.Words.{ℕ, ◌+◌, ◌*◌, min, true, false, List, [], ◌≡◌}
+use Rattle.std.specs.Prelude.{◌+◌, ◌*◌, ◌≡◌}
+use Rattle.common.specs.Words.{ℕ, min, true, false, List, []}
 use Rattle.tokens.specs.Tokens.{Token}
 use Rattle.steps.specs.declared.Went.{Went}
 use Rattle.steps.specs.Faults.{fault, no_fault, worst}

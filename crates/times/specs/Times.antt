@@ -1,5 +1,6 @@
 -- AADL.md, section 4: times. "NUMBER and a unit, a NAME, ms or sec", in ticks of 1 ms.
-use Rattle.common.specs.Words.{ℕ, zero, suc, ◌+◌, ◌-◌, ◌*◌, min, Bool, true, false, cond, ◌&&◌, List, [], ◌∷◌, eqb, drop}
+use Rattle.std.specs.Prelude.{◌+◌, ◌-◌, ◌*◌, ◌&&◌, ◌∷◌}
+use Rattle.common.specs.Words.{ℕ, zero, suc, min, Bool, true, false, cond, List, [], eqb, drop}
 use Rattle.words.specs.Words.{is_name}
 use Rattle.words.specs.Kinds.{NUMBER, MS, SEC}
 use Rattle.tokens.specs.Tokens.{Token}

@@ -3,7 +3,8 @@
 
 pub mod priorities; // priorities.rt: priorities
 
-ghost use Rattle.common.specs.Words.{◌≡◌, ◌-◌, ◌≤◌, ◌<◌, ◌&&◌, length};
+ghost use Rattle.std.specs.Prelude.{◌≡◌, ◌-◌, ◌≤◌, ◌<◌, ◌&&◌};
+ghost use Rattle.common.specs.Words.{length};
 ghost use Rattle.common.specs.Stores.{part};
 ghost use Rattle.tokens.specs.Spots.{token_of};
 ghost use Rattle.steps.specs.Lifted.{lift};

@@ -1,5 +1,6 @@
 // Priorities: a number without a point, 255 at most.
-ghost use Rattle.common.specs.Words.{◌≡◌, ◌≤◌, length};
+ghost use Rattle.std.specs.Prelude.{◌≡◌, ◌≤◌};
+ghost use Rattle.common.specs.Words.{length};
 ghost use Rattle.tokens.specs.Tokens.{from};
 ghost use Rattle.tokens.specs.Spots.{token_of};
 ghost use Rattle.steps.specs.Steps.{On};

@@ -1,6 +1,7 @@
 -- Whether a tick suits the state and the running job: the lines 11, 10, 12 and 13 of the table of refusals, of a sender and of a receiver.
 -- Of the state they see two numbers: `before`, its tick, and `unsent`, the job after the last one that the task sent into the queue.
-use Rattle.common.specs.Words.{ℕ, ◌/◌, Bool, ◌||◌, List, [], ◌∷◌, leb, ltb}
+use Rattle.std.specs.Prelude.{◌/◌, ◌||◌, ◌∷◌}
+use Rattle.common.specs.Words.{ℕ, Bool, List, [], leb, ltb}
 use Rattle.model.specs.Model.{due}
 use Rattle.plan.specs.Limits.{last_tick}
 use Rattle.plan.specs.Refusals.{Line, ◌gives◌, unnamed}

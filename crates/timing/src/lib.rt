@@ -3,7 +3,7 @@
 // period and deadline are of, and line 11 comes first.
 #![tactic(auto)]
 
-ghost use Rattle.common.specs.Words.{◌≡◌, ◌≤◌};
+ghost use Rattle.std.specs.Prelude.{◌≡◌, ◌≤◌};
 ghost use Rattle.calendar.specs.Calendar.{tick};
 ghost use Rattle.plan.specs.Limits.{longest_period, last_tick};
 ghost use Rattle.plan.specs.Refusals.{unnamed};

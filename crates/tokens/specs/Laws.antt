@@ -1,6 +1,8 @@
 -- Laws of tokens: how a run goes on, that a token has a byte at least, and that the tokens behind a token are those from its end on.
-use Rattle.common.specs.Words.{ℕ, zero, suc, ◌+◌, ◌-◌, ◌%◌, ◌<◌, ◌≤◌, arith, add-one, Bool, true, false, true≢false, cond}
-use Rattle.common.specs.Words.{◌&&◌, List, [], ◌∷◌, ◌≡◌, refl, sym, ap, ◌∙◌}
+use Rattle.std.specs.Prelude.{◌+◌, ◌-◌, ◌%◌, ◌<◌, ◌≤◌}
+use Rattle.common.specs.Words.{ℕ, zero, suc, arith, add-one, Bool, true, false, true≢false, cond}
+use Rattle.std.specs.Prelude.{◌&&◌, ◌∷◌, ◌≡◌}
+use Rattle.common.specs.Words.{List, [], refl, sym, ap, ◌∙◌}
 use Rattle.common.specs.Words.{eqb, leb, length, take, drop, get_or, le-leb, lt-leb, eq-eqb, ne_eqb, eqb-true, drop-cons}
 use Rattle.common.specs.Words.{drop-drop, drop_of_length-le, length-drop, get_or-drop, get_or-eq_default, ⊎_elim}
 use Rattle.std.proofs.Math.Bool.{and-false}

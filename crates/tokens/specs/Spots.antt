@@ -1,5 +1,6 @@
 -- A token as the code knows it: its kind, its place and its end.
-use Rattle.common.specs.Words.{ℕ, ◌-◌, ◌<◌, ◌≤◌, cond, List, [], ◌∷◌, ◌≡◌, eqb, length}
+use Rattle.std.specs.Prelude.{◌-◌, ◌<◌, ◌≤◌, ◌∷◌, ◌≡◌}
+use Rattle.common.specs.Words.{ℕ, cond, List, [], eqb, length}
 use Rattle.common.specs.Stores.{part}
 use Rattle.tokens.specs.declared.Spot.{Spot}
 use Rattle.words.specs.Kinds.{ENDED}

@@ -1,7 +1,8 @@
 // Tokens of a plain text, which the crate `plain` makes: what stands at a place, whatever the text.
 #![tactic(auto)]
 
-ghost use Rattle.common.specs.Words.{◌≡◌, ◌+◌, ◌≤◌, ◌<◌, ◌&&◌, length, drop, get_or};
+ghost use Rattle.std.specs.Prelude.{◌≡◌, ◌+◌, ◌≤◌, ◌<◌, ◌&&◌};
+ghost use Rattle.common.specs.Words.{length, drop, get_or};
 ghost use Rattle.tokens.specs.Tokens.{sort_of, run, number_width, one_of, sign_shape, shape_of};
 ghost use Rattle.tokens.specs.Spots.{Stands};
 

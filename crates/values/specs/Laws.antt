@@ -1,6 +1,8 @@
 -- Laws of values: each rule goes on by a token at least, and rules in a row begin from what a rule has said.
-use Rattle.common.specs.Words.{ℕ, zero, suc, ◌-◌, ◌<◌, ◌≤◌, arith, true, false, true≢false, cond, List, ◌⊎◌}
-use Rattle.common.specs.Words.{⊎_elim, ◌≡◌, refl, sym, ◌∙◌}
+use Rattle.std.specs.Prelude.{◌-◌, ◌<◌, ◌≤◌, ◌⊎◌}
+use Rattle.common.specs.Words.{ℕ, zero, suc, arith, true, false, true≢false, cond, List}
+use Rattle.std.specs.Prelude.{◌≡◌}
+use Rattle.common.specs.Words.{⊎_elim, refl, sym, ◌∙◌}
 use Rattle.words.specs.Kinds.{ENDED, ADDS, BECOMES, SCOPE, COMMA, SEMICOLON, OPEN-PAREN, CLOSE-PAREN, OPEN-BRACKET}
 use Rattle.words.specs.Kinds.{CLOSE-BRACKET, OPEN-BRACE, CLOSE-BRACE}
 use Rattle.tokens.specs.Tokens.{Token}

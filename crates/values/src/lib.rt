@@ -1,7 +1,7 @@
 // Values of properties, associations and blocks of them, skipped: where each ends, whatever the text.
 #![tactic(auto)]
 
-ghost use Rattle.common.specs.Words.{◌≡◌};
+ghost use Rattle.std.specs.Prelude.{◌≡◌};
 ghost use Rattle.steps.specs.Steps.{◌⟫◌};
 ghost use Rattle.steps.specs.Lifted.{lift};
 ghost use Rattle.values.specs.Values.{part_kind, value_of, values_by, list_by, record_by, part_of, value, values, scoped, assigns, association};

@@ -1,5 +1,6 @@
 -- Laws of the verdict: the least fault is found by going from check to check.
-use Rattle.common.specs.Words.{ℕ, ◌+◌, ◌-◌, ◌<◌, cond, List, [], ◌++◌, ◌≡◌, refl, eqb, add-one}
+use Rattle.std.specs.Prelude.{◌+◌, ◌-◌, ◌<◌, ◌++◌, ◌≡◌}
+use Rattle.common.specs.Words.{ℕ, cond, List, [], refl, eqb, add-one}
 use Rattle.keys.specs.Keys.{meant}
 use Rattle.steps.specs.declared.Fault.{Fault}
 use Rattle.steps.specs.Faults.{worst}

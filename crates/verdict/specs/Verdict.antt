@@ -1,6 +1,7 @@
 -- AADL.md, section 6, the table: what a text that was read to its end is judged by. Each row that was declared has its faults; the place
 -- of each is the one that the table names.
-use Rattle.common.specs.Words.{ℕ, zero, suc, ◌-◌, Bool, true, not, cond, ◌&&◌, List, [], ◌∷◌, ◌++◌, eqb, length, get_or}
+use Rattle.std.specs.Prelude.{◌-◌, ◌&&◌, ◌∷◌, ◌++◌}
+use Rattle.common.specs.Words.{ℕ, zero, suc, Bool, true, not, cond, List, [], eqb, length, get_or}
 use Rattle.keys.specs.Keys.{key}
 use Rattle.steps.specs.declared.Fault.{Fault}
 use Rattle.steps.specs.Faults.{fault}

@@ -1,7 +1,8 @@
 // What a text that was read to its end is judged by: each row that was declared, for itself. The fault at the least place is kept.
 #![tactic(auto)]
 
-ghost use Rattle.common.specs.Words.{◌≡◌, ◌*◌, ◌<◌, ◌≤◌, ◌&&◌, length};
+ghost use Rattle.std.specs.Prelude.{◌≡◌, ◌*◌, ◌<◌, ◌≤◌, ◌&&◌};
+ghost use Rattle.common.specs.Words.{length};
 ghost use Rattle.steps.specs.Faults.{worst};
 ghost use Rattle.rows.specs.Rows.{row_words};
 ghost use Rattle.index.specs.Index.{rows_in, Indexed};

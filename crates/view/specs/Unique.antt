@@ -1,5 +1,6 @@
 -- The view's contract determines its bytes and where they lie: two results that both meet it have the same bytes at the same place.
-use Rattle.common.specs.Words.{List, ◌≡◌, sym, ◌∙◌, ℕ}
+use Rattle.std.specs.Prelude.{◌≡◌}
+use Rattle.common.specs.Words.{List, sym, ◌∙◌, ℕ}
 use Rattle.std.specs.Borrow.{Bor}
 use Rattle.running.specs.View.{view_of, place_of}
 use Rattle.running.specs.declared.Received.{Received}

@@ -1,6 +1,8 @@
 -- Laws of ways: one type more, where the last one was, and what lent memory holds.
-use Rattle.common.specs.Words.{ℕ, zero, suc, ◌+◌, ◌-◌, ◌<◌, ◌≤◌, arith, Bool, true, false, cond, List, []}
-use Rattle.common.specs.Words.{◌∷◌, ◌++◌, ◌≡◌, refl, sym, ap, ◌∙◌}
+use Rattle.std.specs.Prelude.{◌+◌, ◌-◌, ◌<◌, ◌≤◌}
+use Rattle.common.specs.Words.{ℕ, zero, suc, arith, Bool, true, false, cond, List, []}
+use Rattle.std.specs.Prelude.{◌∷◌, ◌++◌, ◌≡◌}
+use Rattle.common.specs.Words.{refl, sym, ap, ◌∙◌}
 use Rattle.common.specs.Words.{eqb, eq-eqb, ne_eqb, length, get_or, ⊎_elim, set, get_or-set_same, get_or-set_other}
 use Rattle.common.specs.Tests.{lt_or_le}
 use Rattle.std.proofs.Math.Numerals.{unary_clauses}

@@ -2,7 +2,8 @@
 // properties and its ports are looked for. The type above each row is found once and kept, in memory that the caller lends.
 #![tactic(auto)]
 
-ghost use Rattle.common.specs.Words.{◌≡◌, ◌*◌, ◌<◌, ◌≤◌, ℕ, ◌∷◌, length, get_or};
+ghost use Rattle.std.specs.Prelude.{◌≡◌, ◌*◌, ◌<◌, ◌≤◌, ◌∷◌};
+ghost use Rattle.common.specs.Words.{ℕ, length, get_or};
 ghost use Rattle.keys.specs.Keys.{key};
 ghost use Rattle.rows.specs.Rows.{row_words, a_port};
 ghost use Rattle.index.specs.Index.{rows_in, Indexed};

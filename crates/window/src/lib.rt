@@ -3,7 +3,8 @@
 // ones: callers have tested the plan (`Lent`) and stay within the last tick.
 #![tactic(auto)]
 
-ghost use Rattle.common.specs.Words.{◌≡◌, ◌+◌, ◌-◌, ◌^◌, ◌<◌, ◌≤◌, max};
+ghost use Rattle.std.specs.Prelude.{◌≡◌, ◌+◌, ◌-◌, ◌^◌, ◌<◌, ◌≤◌};
+ghost use Rattle.common.specs.Words.{max};
 ghost use Rattle.model.specs.Model.{released, up_to, sender_of};
 ghost use Rattle.calendar.specs.Calendar.{tick, message};
 ghost use Rattle.plan.specs.Limits.{last_tick};

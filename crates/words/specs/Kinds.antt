@@ -1,5 +1,6 @@
 -- Kinds of tokens. A byte by itself is its own kind; a word's is its number in the list of words (`kinds_are`).
-use Rattle.common.specs.Words.{ℕ, [], ◌∷◌, ◌++◌, map, ◌≡◌, refl}
+use Rattle.std.specs.Prelude.{◌∷◌, ◌++◌, ◌≡◌}
+use Rattle.common.specs.Words.{ℕ, [], map, refl}
 use Rattle.words.specs.Letters.{letters, words_by, same}
 use Rattle.words.specs.Words.{listed, rank, kind_of}
 
@@ -229,7 +230,7 @@ DELAYED = 0x251
 -- each of them has the number of its word
 pub kinds_are :
     map kind_of
-        (words_by [] (letters "abstract access annex applies bus calls connections data device end event extends feature features flows group "
+    (words_by [] (letters "abstract access annex applies bus calls connections data device end event extends feature features flows group "
     ++ (letters "implementation in memory modes none out package parameter port private process processor properties property prototypes "
     ++ (letters "provides public requires subcomponents subprogram system thread virtual with period deadline dispatch_protocol "
     ++ (letters "dispatch_offset priority timing timing_properties thread_properties communication_properties ms sec periodic delayed")))))

@@ -1,5 +1,6 @@
 -- AADL.md, section 1: the reserved words, and the words that are names with a meaning of their own (section 4).
-use Rattle.common.specs.Words.{ℕ, ◌+◌, Bool, cond, List, [], ◌∷◌, ◌++◌, leb}
+use Rattle.std.specs.Prelude.{◌+◌, ◌∷◌, ◌++◌}
+use Rattle.common.specs.Words.{ℕ, Bool, cond, List, [], leb}
 use Rattle.words.specs.Letters.{letters, words_by, same}
 
 -- "Reserved words", and behind them the names that section 4 knows

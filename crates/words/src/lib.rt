@@ -3,7 +3,8 @@
 
 pub mod kinds; // kinds.rt: the kinds of tokens
 
-ghost use Rattle.common.specs.Words.{◌≡◌, ◌+◌, ◌-◌, ◌≤◌, ◌<◌, length, get_or};
+ghost use Rattle.std.specs.Prelude.{◌≡◌, ◌+◌, ◌-◌, ◌≤◌, ◌<◌};
+ghost use Rattle.common.specs.Words.{length, get_or};
 ghost use Rattle.common.specs.Stores.{part};
 ghost use Rattle.words.specs.Letters.{same};
 ghost use Rattle.words.specs.Words.{kind_of};

@@ -1,5 +1,6 @@
 -- `calendar::common_multiple`: the quotient's test says whether the product, which is the least common multiple, is over the limit.
-use Rattle.common.specs.Words.{ℕ, ◌*◌, ◌/◌, ◌<◌, ◌≤◌, mul_comm, le-div_iff_mul-le, div-lt_iff_lt-mul, arith}
+use Rattle.std.specs.Prelude.{◌*◌, ◌/◌, ◌<◌, ◌≤◌}
+use Rattle.common.specs.Words.{ℕ, mul_comm, le-div_iff_mul-le, div-lt_iff_lt-mul, arith}
 use Rattle.common.specs.Tests.{tests}
 use Rattle.model.specs.Model.{lcm}
 use Rattle.model.proofs.Multiple.{gcd_pos}

@@ -27,4 +27,9 @@ pub returns : goal.returns
 unfolding rule_of
 returns c =
     let b = c in let d = b in let e = d in let n = e.args.number in
-    rw (lt-leb n 20 e.if-number-le20.false, ne_eqb n 21 d.if-number-eq21.false, ne_eqb n 22 b.if-number-eq22.false, ne_eqb n 23 c.if-number-eq23.false)
+    rw (
+      lt-leb n 20 e.if-number-le20.false,
+      ne_eqb n 21 d.if-number-eq21.false,
+      ne_eqb n 22 b.if-number-eq22.false,
+      ne_eqb n 23 c.if-number-eq23.false,
+    )

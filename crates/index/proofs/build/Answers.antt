@@ -1,5 +1,6 @@
 -- `index::build`: the rows so far are in the dictionary.
-use Rattle.common.specs.Words.{rules, ◌≡◌, refl, arith, length-set}
+use Rattle.std.specs.Prelude.{◌≡◌}
+use Rattle.common.specs.Words.{rules, refl, arith, length-set}
 use Rattle.index.specs.Laws.{indexed_none}
 use Rattle.index.proofs.build.Goals as goal
 

@@ -1,5 +1,6 @@
 -- `index::build`: the rows so far are in the dictionary.
-use Rattle.common.specs.Words.{◌≡◌, ◌-◌, ◌≤◌, length}
+use Rattle.std.specs.Prelude.{◌≡◌, ◌-◌, ◌≤◌}
+use Rattle.common.specs.Words.{length}
 use Rattle.index.specs.Index.{Indexed}
 use Rattle.index.proofs.build.Given as goal
 

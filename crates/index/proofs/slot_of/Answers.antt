@@ -1,5 +1,6 @@
 -- `index::slot_of`: what is left of the search ends where the whole does.
-use Rattle.common.specs.Words.{rules, ℕ, ◌≡◌, sym, ◌∙◌, ◌<◌, arith, pos_of_ne-zero}
+use Rattle.std.specs.Prelude.{◌≡◌, ◌<◌}
+use Rattle.common.specs.Words.{rules, ℕ, sym, ◌∙◌, arith, pos_of_ne-zero}
 use Rattle.index.specs.Trees.{left_all, left_free}
 use Rattle.index.specs.Laws.{entry_within, entry_rises, search_here, search_on}
 use Rattle.index.proofs.slot_of.Goals as goal

@@ -1,5 +1,5 @@
 -- `index::slot_of`: what is left of the search ends where the whole does.
-use Rattle.common.specs.Words.{◌+◌, ◌-◌, ◌*◌, ◌<◌}
+use Rattle.std.specs.Prelude.{◌+◌, ◌-◌, ◌*◌, ◌<◌}
 use Rattle.keys.specs.Keys.{meant}
 use Rattle.index.specs.Trees.{Left}
 use Rattle.index.specs.Index.{rows_in, keys_of}

@@ -1,5 +1,6 @@
 -- `keys::name_byte`: the code's tests give what is reckoned, for each of the 256 bytes.
-use Rattle.common.specs.Words.{ℕ, ◌≡◌, refl, ◌∙◌, ◌<◌, true, cond, eqb, ltb, leb, eqb-true, rules}
+use Rattle.std.specs.Prelude.{◌≡◌, ◌<◌}
+use Rattle.common.specs.Words.{ℕ, refl, ◌∙◌, true, cond, eqb, ltb, leb, eqb-true, rules}
 use Rattle.common.specs.Tests.{tests}
 use Rattle.common.proofs.Rows.{every, every_at}
 use Rattle.tokens.specs.Tokens.{sort_of}

@@ -1,5 +1,6 @@
 -- `keys::same_name`: what is left of the two names decides.
-use Rattle.common.specs.Words.{rules, ℕ, ◌≡◌, refl, sym, ap, ◌∙◌, ◌<◌, length, get_or, eqb, eq-eqb}
+use Rattle.std.specs.Prelude.{◌≡◌, ◌<◌}
+use Rattle.common.specs.Words.{rules, ℕ, refl, sym, ap, ◌∙◌, length, get_or, eqb, eq-eqb}
 use Rattle.words.specs.Letters.{same_refl}
 use Rattle.keys.specs.Keys.{spelled, name_byte}
 use Rattle.keys.specs.Laws.{byte_behind, byte_inside, same_apart, same_none, same_onward}

@@ -1,5 +1,6 @@
 -- `keys::same_name`: what is left of the two names decides.
-use Rattle.common.specs.Words.{◌≡◌, ◌-◌, length}
+use Rattle.std.specs.Prelude.{◌≡◌, ◌-◌}
+use Rattle.common.specs.Words.{length}
 use Rattle.words.specs.Letters.{same}
 use Rattle.keys.specs.Keys.{spelled}
 use Rattle.keys.proofs.same_name.Given as goal

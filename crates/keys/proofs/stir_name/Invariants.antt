@@ -1,5 +1,6 @@
 -- `keys::stir_name`: what is left of the name gives the whole.
-use Rattle.common.specs.Words.{◌≡◌, ◌-◌, length}
+use Rattle.std.specs.Prelude.{◌≡◌, ◌-◌}
+use Rattle.common.specs.Words.{length}
 use Rattle.keys.specs.Keys.{spelled, Below, named}
 use Rattle.keys.proofs.stir_name.Given as goal
 

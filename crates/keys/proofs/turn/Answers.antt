@@ -1,6 +1,7 @@
 -- `keys::turn`: what the code reckons, below the prime.
 -- the product by the factor fits, and what is added to it
-use Rattle.common.specs.Words.{rules, refl, ◌+◌, ◌*◌, ◌%◌}
+use Rattle.std.specs.Prelude.{◌+◌, ◌*◌, ◌%◌}
+use Rattle.common.specs.Words.{rules, refl}
 use Rattle.keys.specs.Keys.{prime, turned}
 use Rattle.keys.specs.Laws.{turned_below, product_below, square_below}
 use Rattle.keys.proofs.turn.Goals as goal

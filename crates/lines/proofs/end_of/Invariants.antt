@@ -1,6 +1,7 @@
 -- `lines::end_of`: every byte passed is no line feed.
 -- the line ends where it ends from i on
-use Rattle.common.specs.Words.{◌≡◌, ◌-◌, length}
+use Rattle.std.specs.Prelude.{◌≡◌, ◌-◌}
+use Rattle.common.specs.Words.{length}
 use Rattle.lines.specs.Ends.{end_of}
 use Rattle.lines.proofs.end_of.Given as goal
 

@@ -1,5 +1,6 @@
 -- `lines::keep`: the loop keeps what is stored so far behind the carry.
-use Rattle.common.specs.Words.{rules, ◌≡◌, ap, ◌∙◌, ◌-◌, min, length, take, length-set, sets}
+use Rattle.std.specs.Prelude.{◌≡◌, ◌-◌}
+use Rattle.common.specs.Words.{rules, ap, ◌∙◌, min, length, take, length-set, sets}
 use Rattle.common.specs.Stores.{sets_more}
 use Rattle.lines.specs.Lines.{carry_limit}
 use Rattle.lines.specs.Held.{held_of, take_least}

@@ -1,5 +1,6 @@
 -- `lines::line_of`: by whether a carry began the line.
-use Rattle.common.specs.Words.{rules, arith, drop, length-take, ◌≡◌, refl, sym, ◌+◌, ◌-◌, min, le-ltb}
+use Rattle.std.specs.Prelude.{◌≡◌, ◌+◌, ◌-◌}
+use Rattle.common.specs.Words.{rules, arith, drop, length-take, refl, sym, min, le-ltb}
 use Rattle.lines.specs.Lines.{carry_limit}
 use Rattle.lines.specs.Held.{cut_take}
 use Rattle.common.specs.Tests.{tests}

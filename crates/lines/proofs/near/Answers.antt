@@ -1,5 +1,6 @@
 -- `lines::near`: the loop keeps whether a line feed was among the bytes passed.
-use Rattle.common.specs.Words.{rules, ◌≡◌, ◌∙◌}
+use Rattle.std.specs.Prelude.{◌≡◌}
+use Rattle.common.specs.Words.{rules, ◌∙◌}
 use Rattle.lines.specs.Ends.{stride, feed_none, feed_here, feed_next}
 use Rattle.lines.proofs.near.Goals as goal
 use Rattle.lines.proofs.near.Goals.{then-piece-from-eq-LINE_FEED, else-piece-from-eq-LINE_FEED}

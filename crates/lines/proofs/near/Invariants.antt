@@ -1,5 +1,5 @@
 -- `lines::near`: the loop keeps whether a line feed was among the bytes passed.
-use Rattle.common.specs.Words.{◌≡◌, ◌-◌, ◌≤◌}
+use Rattle.std.specs.Prelude.{◌≡◌, ◌-◌, ◌≤◌}
 use Rattle.lines.specs.Ends.{stride, feed_in}
 use Rattle.lines.proofs.near.Given as goal
 

@@ -1,5 +1,6 @@
 -- `lines::skip`: every stride passed is a whole one without a line feed, and the loop stops at the first place where none stands.
-use Rattle.common.specs.Words.{rules, sym, ◌∙◌, ◌+◌, ◌<◌, ◌≤◌, length, lt-leb, le-leb}
+use Rattle.std.specs.Prelude.{◌+◌, ◌<◌, ◌≤◌}
+use Rattle.common.specs.Words.{rules, sym, ◌∙◌, length, lt-leb, le-leb}
 use Rattle.lines.specs.Ends.{stride}
 use Rattle.lines.specs.Strides.{passed_none, passed_more, passed_all}
 use Rattle.lines.proofs.skip.Goals as goal

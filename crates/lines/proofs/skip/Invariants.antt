@@ -1,5 +1,6 @@
 -- `lines::skip`: every stride passed is a whole one without a line feed, and the loop stops at the first place where none stands.
-use Rattle.common.specs.Words.{◌-◌, ◌≤◌, length}
+use Rattle.std.specs.Prelude.{◌-◌, ◌≤◌}
+use Rattle.common.specs.Words.{length}
 use Rattle.lines.specs.Strides.{Passed}
 use Rattle.lines.proofs.skip.Given as goal
 

@@ -1,5 +1,5 @@
 -- `phrases::paths`: what is left to pass ends where the whole does.
-use Rattle.common.specs.Words.{◌≡◌}
+use Rattle.std.specs.Prelude.{◌≡◌}
 use Rattle.words.specs.Kinds.{COMMA}
 use Rattle.steps.specs.Steps.{◌⟫◌, is, many}
 use Rattle.steps.specs.Lifted.{lift, size}

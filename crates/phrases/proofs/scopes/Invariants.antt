@@ -1,5 +1,5 @@
 -- `phrases::scopes`: what is left to pass ends where the whole does.
-use Rattle.common.specs.Words.{◌≡◌}
+use Rattle.std.specs.Prelude.{◌≡◌}
 use Rattle.steps.specs.Steps.{◌⟫◌, many}
 use Rattle.steps.specs.Lifted.{lift, size}
 use Rattle.phrases.specs.Phrases.{begins_scope, scope}

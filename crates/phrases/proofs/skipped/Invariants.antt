@@ -1,5 +1,5 @@
 -- `phrases::skipped`: what is left to pass ends where the whole does.
-use Rattle.common.specs.Words.{◌≡◌}
+use Rattle.std.specs.Prelude.{◌≡◌}
 use Rattle.steps.specs.Steps.{◌⟫◌, next, any, many}
 use Rattle.steps.specs.Lifted.{lift, size}
 use Rattle.phrases.specs.Phrases.{skip_kind}

@@ -1,5 +1,6 @@
 -- `plain::annex_rest`: nothing closes it behind the last `**}`.
-use Rattle.common.specs.Words.{rules, sym, ◌∙◌, ◌+◌}
+use Rattle.std.specs.Prelude.{◌+◌}
+use Rattle.common.specs.Words.{rules, sym, ◌∙◌}
 use Rattle.common.specs.Tests.{as_tested}
 use Rattle.plain.specs.Close.{closed_never, annex_none, annex_close}
 use Rattle.plain.proofs.annex_rest.Goals as goal

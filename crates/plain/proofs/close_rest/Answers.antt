@@ -1,5 +1,6 @@
 -- `plain::close_rest`: what is left to look through gives the whole.
-use Rattle.common.specs.Words.{rules, ◌≡◌, sym, ◌∙◌, ◌+◌, ◌-◌, arith}
+use Rattle.std.specs.Prelude.{◌≡◌, ◌+◌, ◌-◌}
+use Rattle.common.specs.Words.{rules, sym, ◌∙◌, arith}
 use Rattle.plain.specs.Close.{close_none, close_here, close_more}
 use Rattle.plain.proofs.close_rest.Goals as goal
 

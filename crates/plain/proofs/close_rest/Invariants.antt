@@ -1,5 +1,6 @@
 -- `plain::close_rest`: what is left to look through gives the whole.
-use Rattle.common.specs.Words.{◌≡◌, ◌+◌, ◌-◌, ◌≤◌, length, drop}
+use Rattle.std.specs.Prelude.{◌≡◌, ◌+◌, ◌-◌, ◌≤◌}
+use Rattle.common.specs.Words.{length, drop}
 use Rattle.plain.specs.Plain.{close_by}
 use Rattle.plain.proofs.close_rest.Given as goal
 

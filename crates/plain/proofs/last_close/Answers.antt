@@ -1,5 +1,6 @@
 -- `plain::last_close`: what is left to look through, from the end on, gives the whole.
-use Rattle.common.specs.Words.{rules, ◌≡◌, refl, sym, ◌∙◌}
+use Rattle.std.specs.Prelude.{◌≡◌}
+use Rattle.common.specs.Words.{rules, refl, sym, ◌∙◌}
 use Rattle.plain.specs.Close.{last_by, last_here, last_more}
 use Rattle.plain.proofs.last_close.Goals as goal
 

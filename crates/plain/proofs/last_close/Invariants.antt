@@ -1,5 +1,6 @@
 -- `plain::last_close`: what is left to look through, from the end on, gives the whole.
-use Rattle.common.specs.Words.{◌≡◌, ◌≤◌, length}
+use Rattle.std.specs.Prelude.{◌≡◌, ◌≤◌}
+use Rattle.common.specs.Words.{length}
 use Rattle.plain.specs.Close.{last_by}
 use Rattle.plain.proofs.last_close.Given as goal
 

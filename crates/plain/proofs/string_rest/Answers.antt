@@ -1,5 +1,6 @@
 -- `plain::string_rest`: what is left to look through gives the whole.
-use Rattle.common.specs.Words.{rules, ◌≡◌, sym, ◌∙◌, ◌+◌, ◌-◌, arith}
+use Rattle.std.specs.Prelude.{◌≡◌, ◌+◌, ◌-◌}
+use Rattle.common.specs.Words.{rules, sym, ◌∙◌, arith}
 use Rattle.plain.specs.Close.{string_none, string_line, string_ends, string_more}
 use Rattle.plain.proofs.string_rest.Goals as goal
 

@@ -1,5 +1,6 @@
 -- `plain::string_rest`: what is left to look through gives the whole.
-use Rattle.common.specs.Words.{◌≡◌, ◌-◌, ◌≤◌, length, drop}
+use Rattle.std.specs.Prelude.{◌≡◌, ◌-◌, ◌≤◌}
+use Rattle.common.specs.Words.{length, drop}
 use Rattle.plain.specs.Plain.{string_by}
 use Rattle.plain.proofs.string_rest.Given as goal
 

@@ -1,5 +1,6 @@
 -- `properties::associations_in`: what is left to read says what the whole does.
-use Rattle.common.specs.Words.{ℕ, List, ◌≡◌}
+use Rattle.std.specs.Prelude.{◌≡◌}
+use Rattle.common.specs.Words.{ℕ, List}
 use Rattle.steps.specs.Steps.{named}
 use Rattle.steps.specs.Lifted.{lift, size}
 use Rattle.rows.specs.Said.{repeat}

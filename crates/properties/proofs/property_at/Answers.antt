@@ -1,5 +1,6 @@
 -- `properties::property_at`: by the first name, or the second behind its set.
-use Rattle.common.specs.Words.{◌≡◌, sym, ap, ◌∙◌}
+use Rattle.std.specs.Prelude.{◌≡◌}
+use Rattle.common.specs.Words.{sym, ap, ◌∙◌}
 use Rattle.steps.specs.Lifted.{lift, first_kind, second_kind}
 use Rattle.properties.specs.Properties.{named_by, set_of, inner_name}
 use Rattle.properties.specs.Laws.{property_plain, property_longer, property_set, property_other}
@@ -39,5 +40,6 @@ returns c =
     let i : lift a.text.now y.any-inner.result ≡ inner_name s = rw (y.any-inner.ensures, y.any.ensures) in
     let n : g.named_by-property.result ≡ named_by (first_kind (inner_name s)) =
     g.named_by-property.ensures ∙ ap named_by (g.next.ensures ∙ ap first_kind i) in
-    property_other s (sym j.second.ensures ∙ j.if-second-ne-SCOPE.false) (λ e. k.if-second-eq-SCOPE.false (k.second-2.ensures ∙ ap second_kind i ∙ e))
+    property_other s (sym j.second.ensures ∙ j.if-second-ne-SCOPE.false)
+    (λ e. k.if-second-eq-SCOPE.false (k.second-2.ensures ∙ ap second_kind i ∙ e))
     (λ e. c.if-kind-set_of.false (j.next-kind.ensures ∙ e ∙ sym (c.set_of.ensures ∙ ap set_of n)))

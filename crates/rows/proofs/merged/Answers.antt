@@ -1,5 +1,6 @@
 -- `rows::merged`: the entries so far are those of the table.
-use Rattle.common.specs.Words.{rules, ℕ, [], ◌≡◌, get_or}
+use Rattle.std.specs.Prelude.{◌≡◌}
+use Rattle.common.specs.Words.{rules, ℕ, [], get_or}
 use Rattle.common.specs.Table.{table_none, table_more, table_all}
 use Rattle.rows.specs.Said.{merged}
 use Rattle.rows.specs.States.{first_of}

@@ -1,5 +1,6 @@
 -- `rows::merged`: the entries so far are those of the table.
-use Rattle.common.specs.Words.{ℕ, ◌≡◌, ◌-◌, ◌≤◌, length, take, get_or}
+use Rattle.std.specs.Prelude.{◌≡◌, ◌-◌, ◌≤◌}
+use Rattle.common.specs.Words.{ℕ, length, take, get_or}
 use Rattle.common.specs.Table.{table}
 use Rattle.rows.specs.States.{first_of}
 use Rattle.rows.proofs.merged.Given as goal

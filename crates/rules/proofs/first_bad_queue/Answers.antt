@@ -1,5 +1,6 @@
 -- `rules::first_bad_queue`: no row below the loop's counter is bad.
-use Rattle.common.specs.Words.{◌≡◌, sym, rules}
+use Rattle.std.specs.Prelude.{◌≡◌}
+use Rattle.common.specs.Words.{sym, rules}
 use Rattle.common.proofs.Rows.{first_bad_none, first_bad_more, first_bad_found}
 use Rattle.rules.proofs.first_bad_queue.Goals as goal
 

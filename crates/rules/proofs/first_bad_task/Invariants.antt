@@ -1,5 +1,5 @@
 -- `rules::first_bad_task`: no row below the loop's counter is bad.
-use Rattle.common.specs.Words.{◌-◌, ◌≤◌, ◌≡◌}
+use Rattle.std.specs.Prelude.{◌-◌, ◌≤◌, ◌≡◌}
 use Rattle.plan.specs.Rules.{bad_task}
 use Rattle.rules.proofs.first_bad_task.Given as goal
 

@@ -1,5 +1,6 @@
 -- `rules::first_sender`: no row below the loop's counter sends.
-use Rattle.common.specs.Words.{◌-◌, ◌≤◌, not, false, ◌≡◌, get_or}
+use Rattle.std.specs.Prelude.{◌-◌, ◌≤◌, ◌≡◌}
+use Rattle.common.specs.Words.{not, false, get_or}
 use Rattle.common.proofs.Rows.{first_bad}
 use Rattle.rules.proofs.first_sender.Given as goal
 

@@ -1,5 +1,6 @@
 -- `rules::only_tasks_send`: every row below the loop's counter may send as it does.
-use Rattle.common.specs.Words.{◌≡◌, sym, rules}
+use Rattle.std.specs.Prelude.{◌≡◌}
+use Rattle.common.specs.Words.{sym, rules}
 use Rattle.common.proofs.Rows.{every_none, every_more, every_fails}
 use Rattle.plan.specs.Rules.{only_tasks_send}
 use Rattle.rules.proofs.only_tasks_send.Goals as goal

@@ -1,5 +1,6 @@
 -- `rules::only_tasks_send`: every row below the loop's counter may send as it does.
-use Rattle.common.specs.Words.{◌-◌, ◌≤◌, true, false, ◌≡◌, get_or}
+use Rattle.std.specs.Prelude.{◌-◌, ◌≤◌, ◌≡◌}
+use Rattle.common.specs.Words.{true, false, get_or}
 use Rattle.common.proofs.Rows.{every}
 use Rattle.plan.specs.Rules.{may_send}
 use Rattle.rules.proofs.only_tasks_send.Given as goal

@@ -1,5 +1,6 @@
 -- `steps::same_bytes`.
-use Rattle.common.specs.Words.{rules, ℕ, sym, ap, ◌∙◌, ◌-◌}
+use Rattle.std.specs.Prelude.{◌-◌}
+use Rattle.common.specs.Words.{rules, ℕ, sym, ap, ◌∙◌}
 use Rattle.common.specs.Stores.{part, part_length}
 use Rattle.words.specs.Letters.{same}
 use Rattle.words.specs.Found.{same_length}

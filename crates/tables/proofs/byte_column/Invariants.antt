@@ -1,5 +1,6 @@
 -- `tables::byte_column`: before the loop's row the values are those that are counted, from it on those that were handed in.
-use Rattle.common.specs.Words.{ℕ, ◌-◌, ◌<◌, ◌≤◌, List, ◌≡◌, length, get_or}
+use Rattle.std.specs.Prelude.{◌-◌, ◌<◌, ◌≤◌, ◌≡◌}
+use Rattle.common.specs.Words.{ℕ, List, length, get_or}
 use Rattle.tables.specs.Table.{value_within}
 use Rattle.tables.proofs.byte_column.Given as goal
 

@@ -1,5 +1,6 @@
 -- `tables::flat_square` fills its array from the front.
-use Rattle.common.specs.Words.{◌≡◌, rules}
+use Rattle.std.specs.Prelude.{◌≡◌}
+use Rattle.common.specs.Words.{rules}
 use Rattle.common.specs.Table.{table_none, table_more, table_all}
 use Rattle.tables.proofs.flat_square.Goals as goal
 

@@ -1,5 +1,6 @@
 -- `tables::flat_square` fills its array from the front.
-use Rattle.common.specs.Words.{◌-◌, ◌≤◌, ◌≡◌, length, take}
+use Rattle.std.specs.Prelude.{◌-◌, ◌≤◌, ◌≡◌}
+use Rattle.common.specs.Words.{length, take}
 use Rattle.common.specs.Table.{table}
 use Rattle.tables.specs.Table.{flat_entry}
 use Rattle.tables.proofs.flat_square.Given as goal

@@ -1,5 +1,6 @@
 -- `tables::task_column` fills its array from the front.
-use Rattle.common.specs.Words.{◌-◌, ◌≤◌, ◌≡◌, length, take}
+use Rattle.std.specs.Prelude.{◌-◌, ◌≤◌, ◌≡◌}
+use Rattle.common.specs.Words.{length, take}
 use Rattle.common.specs.Table.{table}
 use Rattle.tables.specs.Table.{value_within}
 use Rattle.tables.proofs.task_column.Given as goal

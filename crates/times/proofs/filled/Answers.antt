@@ -1,5 +1,6 @@
 -- `times::filled`: what is left to fill gives the whole.
-use Rattle.common.specs.Words.{rules, ◌≡◌, refl, ◌∙◌}
+use Rattle.std.specs.Prelude.{◌≡◌}
+use Rattle.common.specs.Words.{rules, refl, ◌∙◌}
 use Rattle.times.specs.Times.{filled}
 use Rattle.times.specs.Sums.{grown}
 use Rattle.times.specs.Laws.{filled_more}

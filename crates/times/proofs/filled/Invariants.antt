@@ -1,5 +1,5 @@
 -- `times::filled`: what is left to fill gives the whole.
-use Rattle.common.specs.Words.{◌≡◌, ◌≤◌}
+use Rattle.std.specs.Prelude.{◌≡◌, ◌≤◌}
 use Rattle.times.specs.Times.{filled, most}
 use Rattle.times.specs.Sums.{grown}
 use Rattle.times.proofs.filled.Given as goal

@@ -1,5 +1,6 @@
 -- `times::sum_of`: the sum of what is left, from the sum so far, is the whole.
-use Rattle.common.specs.Words.{rules, ◌≡◌, refl, ◌+◌, ◌-◌, arith}
+use Rattle.std.specs.Prelude.{◌≡◌, ◌+◌, ◌-◌}
+use Rattle.common.specs.Words.{rules, refl, arith}
 use Rattle.common.specs.Stores.{part_cons}
 use Rattle.times.specs.Times.{with_bytes}
 use Rattle.times.proofs.sum_of.Goals as goal

@@ -1,5 +1,5 @@
 -- `times::sum_of`: the sum of what is left, from the sum so far, is the whole.
-use Rattle.common.specs.Words.{◌≡◌, ◌-◌, ◌≤◌}
+use Rattle.std.specs.Prelude.{◌≡◌, ◌-◌, ◌≤◌}
 use Rattle.common.specs.Stores.{part}
 use Rattle.times.specs.Times.{with_bytes, most}
 use Rattle.times.specs.Sums.{grown, counted}

@@ -1,5 +1,6 @@
 -- `tokens::one_of`.
-use Rattle.common.specs.Words.{rules, ℕ, ◌≡◌, ap, ◌%◌}
+use Rattle.std.specs.Prelude.{◌≡◌, ◌%◌}
+use Rattle.common.specs.Words.{rules, ℕ, ap}
 use Rattle.tokens.specs.Tokens.{shape}
 use Rattle.tokens.proofs.one_of.Goals as goal
 

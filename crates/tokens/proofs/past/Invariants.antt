@@ -1,5 +1,6 @@
 -- `tokens::past`: the run from here on ends where the whole does.
-use Rattle.common.specs.Words.{◌≡◌, ◌+◌, ◌-◌, ◌≤◌, length, drop}
+use Rattle.std.specs.Prelude.{◌≡◌, ◌+◌, ◌-◌, ◌≤◌}
+use Rattle.common.specs.Words.{length, drop}
 use Rattle.tokens.specs.Tokens.{run}
 use Rattle.tokens.proofs.past.Given as goal
 

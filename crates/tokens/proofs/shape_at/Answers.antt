@@ -82,4 +82,4 @@ returns c =
     let a = k.args in
     rw (c.sign_shape.ensures, c.byte_at-2.ensures, c.byte_at.ensures)
     (shape_sign a.text.now a.at (rw (← k.sort_of-sort.ensures) j.if-sort-eq-LETTER.false)
-        (rw (← k.sort_of-sort.ensures) j.if-sort-eq-DIGIT.false))
+    (rw (← k.sort_of-sort.ensures) j.if-sort-eq-DIGIT.false))

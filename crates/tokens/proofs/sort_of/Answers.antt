@@ -1,5 +1,6 @@
 -- `tokens::sort_of`: the table is what is reckoned.
-use Rattle.common.specs.Words.{ℕ, ◌≡◌, ap, ◌∙◌, ◌+◌, ◌-◌, ◌≤◌, arith}
+use Rattle.std.specs.Prelude.{◌≡◌, ◌+◌, ◌-◌, ◌≤◌}
+use Rattle.common.specs.Words.{ℕ, ap, ◌∙◌, arith}
 use Rattle.common.specs.Table.{table, table_at}
 use Rattle.tokens.specs.Tokens.{sort_of}
 use Rattle.tokens.proofs.sort_of.Goals as goal

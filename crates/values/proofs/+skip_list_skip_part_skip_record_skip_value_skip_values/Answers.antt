@@ -27,7 +27,8 @@ pub skip_part-returns-then-depth-eq0 : goal.skip_part-returns-then-depth-eq0
 unfolding part_kind
 skip_part-returns-then-depth-eq0 t c =
     let a = c.args in
-    rw c.stop.ensures (part_too_deep a.depth (lift a.text.now a.went) c.if-depth-eq0.true (inl (sym c.next-kind.ensures ∙ c.if-kind-eq-OPEN_PAREN.true)))
+    rw c.stop.ensures (part_too_deep a.depth (lift a.text.now a.went) c.if-depth-eq0.true
+    (inl (sym c.next-kind.ensures ∙ c.if-kind-eq-OPEN_PAREN.true)))
 
 pub skip_part-returns-then-kind-eq-OPEN_PAREN : goal.skip_part-returns-then-kind-eq-OPEN_PAREN
 unfolding part_kind
@@ -40,7 +41,8 @@ pub skip_part-returns-then-depth-eq0-2 : goal.skip_part-returns-then-depth-eq0-2
 unfolding part_kind
 skip_part-returns-then-depth-eq0-2 t c =
     let a = c.args in
-    rw c.stop-then-depth-eq0-2.ensures (part_too_deep a.depth (lift a.text.now a.went) c.if-depth-eq0-2.true (inr (sym c.next-kind.ensures ∙ c.if-kind-eq-OPEN_BRACKET.true)))
+    rw c.stop-then-depth-eq0-2.ensures (part_too_deep a.depth (lift a.text.now a.went) c.if-depth-eq0-2.true
+    (inr (sym c.next-kind.ensures ∙ c.if-kind-eq-OPEN_BRACKET.true)))
 
 pub skip_part-returns-then-kind-eq-OPEN_BRACKET : goal.skip_part-returns-then-kind-eq-OPEN_BRACKET
 unfolding part_kind
@@ -55,7 +57,8 @@ skip_part-returns-then-begins_part t c =
     let a = c.args in
     rw c.any.ensures
     (part_atom a.depth (lift a.text.now a.went) (λ e. c.if-kind-eq-OPEN_PAREN.false (c.next-kind.ensures ∙ e))
-    (λ e. c.if-kind-eq-OPEN_BRACKET.false (c.next-kind.ensures ∙ e)) (rw (← c.next-kind.ensures, ← c.begins_part.ensures) c.if-begins_part.true))
+    (λ e. c.if-kind-eq-OPEN_BRACKET.false (c.next-kind.ensures ∙ e))
+    (rw (← c.next-kind.ensures, ← c.begins_part.ensures) c.if-begins_part.true))
 
 pub skip_part-returns : goal.skip_part-returns
 unfolding part_kind
@@ -63,7 +66,8 @@ skip_part-returns t c =
     let a = c.args in
     rw c.stop-2.ensures
     (part_unfit a.depth (lift a.text.now a.went) (λ e. c.if-kind-eq-OPEN_PAREN.false (c.next-kind.ensures ∙ e))
-    (λ e. c.if-kind-eq-OPEN_BRACKET.false (c.next-kind.ensures ∙ e)) (rw (← c.next-kind.ensures, ← c.begins_part.ensures) c.if-begins_part.false))
+    (λ e. c.if-kind-eq-OPEN_BRACKET.false (c.next-kind.ensures ∙ e))
+    (rw (← c.next-kind.ensures, ← c.begins_part.ensures) c.if-begins_part.false))
 
 pub skip_record-loop-w-smaller : goal.skip_record-loop-w-smaller
 unfolding part_kind

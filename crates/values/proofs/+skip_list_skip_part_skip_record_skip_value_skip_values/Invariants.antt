@@ -1,5 +1,5 @@
 -- The cycle of `values::skip_value`: a value calls its parts, a part that is a list or a record calls back with one bracket less to open.
-use Rattle.common.specs.Words.{◌≡◌, ◌+◌, ◌*◌}
+use Rattle.std.specs.Prelude.{◌≡◌, ◌+◌, ◌*◌}
 use Rattle.words.specs.Kinds.{COMMA}
 use Rattle.steps.specs.Steps.{◌⟫◌, is as is_kind, named, many}
 use Rattle.steps.specs.Lifted.{lift, size}
@@ -37,7 +37,8 @@ decreases-skip_value-loop-w l = size (lift l.text l.w)
 
 abbrev pub invariant-skip_values-loop-w : goal.invariant-skip_values-loop-w
 invariant-skip_values-loop-w l =
-    lift l.text l.w ⟫ many (is_kind COMMA) (comma_by (value_of l.depth)) ≡ lift l.text l.initial.w ⟫ many (is_kind COMMA) (comma_by (value_of l.depth))
+    lift l.text l.w ⟫ many (is_kind COMMA) (comma_by (value_of l.depth))
+    ≡ lift l.text l.initial.w ⟫ many (is_kind COMMA) (comma_by (value_of l.depth))
 
 abbrev pub decreases-skip_values-loop-w : goal.decreases-skip_values-loop-w
 decreases-skip_values-loop-w l = size (lift l.text l.w)

@@ -1,5 +1,5 @@
 -- `values::associations`: what is left to pass ends where the whole does.
-use Rattle.common.specs.Words.{◌≡◌}
+use Rattle.std.specs.Prelude.{◌≡◌}
 use Rattle.steps.specs.Steps.{◌⟫◌, named, many}
 use Rattle.steps.specs.Lifted.{lift, size}
 use Rattle.values.specs.Values.{association}

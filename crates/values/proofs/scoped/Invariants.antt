@@ -1,5 +1,5 @@
 -- `values::scoped`: what is left to pass ends where the whole does.
-use Rattle.common.specs.Words.{◌≡◌}
+use Rattle.std.specs.Prelude.{◌≡◌}
 use Rattle.words.specs.Kinds.{SCOPE}
 use Rattle.steps.specs.Steps.{◌⟫◌, is, many}
 use Rattle.steps.specs.Lifted.{lift, size}

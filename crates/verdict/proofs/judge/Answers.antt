@@ -1,5 +1,6 @@
 -- `verdict::judge`: the rows so far are judged.
-use Rattle.common.specs.Words.{rules, ◌≡◌, refl}
+use Rattle.std.specs.Prelude.{◌≡◌}
+use Rattle.common.specs.Words.{rules, refl}
 use Rattle.steps.specs.Faults.{worst}
 use Rattle.index.specs.Index.{rows_in}
 use Rattle.index.specs.Laws.{rows_length}

@@ -1,5 +1,5 @@
 -- `verdict::judge`: the rows so far are judged.
-use Rattle.common.specs.Words.{◌≡◌, ◌-◌, ◌≤◌}
+use Rattle.std.specs.Prelude.{◌≡◌, ◌-◌, ◌≤◌}
 use Rattle.steps.specs.Faults.{worst}
 use Rattle.index.specs.Index.{rows_in}
 use Rattle.verdict.specs.Verdict.{faults_below}

@@ -1,5 +1,6 @@
 -- `ways::on_way`: what is left of the way has what the whole has.
-use Rattle.common.specs.Words.{ℕ, ◌≤◌, get_or}
+use Rattle.std.specs.Prelude.{◌≤◌}
+use Rattle.common.specs.Words.{ℕ, get_or}
 use Rattle.index.specs.Index.{rows_in}
 use Rattle.ways.specs.Ways.{cell, most_types, way_by, first_in}
 use Rattle.ways.specs.Laws.{FirstLeft}

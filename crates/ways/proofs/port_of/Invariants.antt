@@ -1,5 +1,6 @@
 -- `ways::port_of`: what is left of the way has the port that the whole has.
-use Rattle.common.specs.Words.{ℕ, ◌≤◌, get_or}
+use Rattle.std.specs.Prelude.{◌≤◌}
+use Rattle.common.specs.Words.{ℕ, get_or}
 use Rattle.keys.specs.Keys.{key}
 use Rattle.rows.specs.Rows.{a_port}
 use Rattle.index.specs.Index.{rows_in}

@@ -1,5 +1,6 @@
 -- `ways::way_ends`: what is left of the way ends as the whole does.
-use Rattle.common.specs.Words.{ℕ, ◌≤◌, get_or}
+use Rattle.std.specs.Prelude.{◌≤◌}
+use Rattle.common.specs.Words.{ℕ, get_or}
 use Rattle.index.specs.Index.{rows_in}
 use Rattle.ways.specs.Ways.{most_types, way_by, ends}
 use Rattle.ways.specs.Laws.{EndsLeft}

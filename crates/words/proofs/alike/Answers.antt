@@ -1,5 +1,6 @@
 -- `words::alike`: what is left to compare decides.
-use Rattle.common.specs.Words.{rules, ◌≡◌, sym, ◌∙◌, ◌+◌, ◌-◌, arith}
+use Rattle.std.specs.Prelude.{◌≡◌, ◌+◌, ◌-◌}
+use Rattle.common.specs.Words.{rules, sym, ◌∙◌, arith}
 use Rattle.words.specs.Letters.{same, same_differ, same_more}
 use Rattle.words.proofs.alike.Goals as goal
 

@@ -1,5 +1,5 @@
 -- `words::alike`: what is left to compare decides.
-use Rattle.common.specs.Words.{◌≡◌, ◌+◌, ◌-◌, ◌≤◌}
+use Rattle.std.specs.Prelude.{◌≡◌, ◌+◌, ◌-◌, ◌≤◌}
 use Rattle.common.specs.Stores.{part}
 use Rattle.words.specs.Letters.{same}
 use Rattle.words.proofs.alike.Given as goal

@@ -1,5 +1,6 @@
 -- `words::byte_at`: 0 behind the end.
-use Rattle.common.specs.Words.{sym, ◌≤◌, arith, length, get_or-eq_default}
+use Rattle.std.specs.Prelude.{◌≤◌}
+use Rattle.common.specs.Words.{sym, arith, length, get_or-eq_default}
 use Rattle.words.proofs.byte_at.Goals as goal
 
 pub returns-else-at-text : goal.returns-else-at-text

@@ -1,5 +1,6 @@
 -- `words::is_word`: the words stand one after another as the list has them.
-use Rattle.common.specs.Words.{rules, ℕ, ◌≡◌, ◌∙◌, ap, arith, List, length}
+use Rattle.std.specs.Prelude.{◌≡◌}
+use Rattle.common.specs.Words.{rules, ℕ, ◌∙◌, ap, arith, List, length}
 use Rattle.common.specs.Stores.{part}
 use Rattle.words.specs.Letters.{words_by, same}
 use Rattle.words.specs.Words.{listed}

@@ -1,5 +1,6 @@
 -- `words::length_of`: the table is what is reckoned from the list.
-use Rattle.common.specs.Words.{rules, ℕ, ◌∙◌, ◌+◌, arith, length}
+use Rattle.std.specs.Prelude.{◌+◌}
+use Rattle.common.specs.Words.{rules, ℕ, ◌∙◌, arith, length}
 use Rattle.common.specs.Table.{table, table_at}
 use Rattle.words.specs.Letters.{words_by}
 use Rattle.words.specs.Words.{listed}

@@ -1,5 +1,6 @@
 -- `words::number_with`: the table is what is reckoned from the list.
-use Rattle.common.specs.Words.{ℕ, ◌≡◌, refl, ◌∙◌, ◌+◌, ◌-◌, ◌<◌, ◌≤◌, arith, true, ltb, ltb-true}
+use Rattle.std.specs.Prelude.{◌≡◌, ◌+◌, ◌-◌, ◌<◌, ◌≤◌}
+use Rattle.common.specs.Words.{ℕ, refl, ◌∙◌, arith, true, ltb, ltb-true}
 use Rattle.common.proofs.Rows.{every, every_at}
 use Rattle.common.specs.Table.{table, table_at}
 use Rattle.words.specs.Letters.{words_by}

@@ -1,5 +1,6 @@
 -- `words::sum_of`: what is left to sum gives the whole.
-use Rattle.common.specs.Words.{rules, ◌≡◌, refl, ◌+◌, ◌-◌, arith, mod-lt}
+use Rattle.std.specs.Prelude.{◌≡◌, ◌+◌, ◌-◌}
+use Rattle.common.specs.Words.{rules, refl, arith, mod-lt}
 use Rattle.common.specs.Stores.{part_cons}
 use Rattle.words.specs.Found.{sum_by}
 use Rattle.words.proofs.sum_of.Goals as goal

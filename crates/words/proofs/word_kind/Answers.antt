@@ -1,5 +1,6 @@
 -- `words::word_kind`: the word that its sum leads to, or no word of the list.
-use Rattle.common.specs.Words.{rules, ◌≡◌, sym, ◌∙◌, ◌-◌, ap}
+use Rattle.std.specs.Prelude.{◌≡◌, ◌-◌}
+use Rattle.common.specs.Words.{rules, sym, ◌∙◌, ap}
 use Rattle.common.specs.Stores.{part, part_length}
 use Rattle.words.specs.Found.{sum_of, word_at, number_with, kind_found, kind_other, same_length}
 use Rattle.words.proofs.word_kind.Goals as goal

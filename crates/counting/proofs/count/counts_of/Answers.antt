@@ -1,5 +1,6 @@
 -- `count::counts_of`: the later count goes on from the earlier one, and is no more than its tick.
-use Rattle.common.specs.Words.{ℕ, ◌*◌, ◌≤◌, ◌+◌, ◌-◌, arith, ◌≡◌}
+use Rattle.std.specs.Prelude.{◌*◌, ◌≤◌, ◌+◌, ◌-◌, ◌≡◌}
+use Rattle.common.specs.Words.{ℕ, arith}
 use Rattle.model.specs.Model.{count}
 use Rattle.model.proofs.Count.{count_le}
 use Rattle.counting.specs.Passed.{count_on}
@@ -17,11 +18,22 @@ overflow_add-result c =
     let a = c.args in
     let p = c.passed_at-passed in
     let e = rw p.ensures.0 at p.ensures.1 in
-    omega (arith, later a.period a.deadline a.low.0 a.high.0 p.result.next c.requires.0 c.requires.2 e, count_le a.period a.deadline c.requires.0 c.requires.1 a.high.0)
+    omega (
+      arith,
+      later a.period a.deadline a.low.0 a.high.0 p.result.next c.requires.0 c.requires.2 e,
+      count_le a.period a.deadline c.requires.0 c.requires.1 a.high.0,
+    )
 
 pub returns : goal.returns
 returns c =
     let a = c.args in
     let p = c.passed_at-passed in
-    let e = rw p.ensures.0 at p.ensures.1 in
-    (p.ensures.0, omega (arith, p.ensures.0, c.deadlines_in-more.ensures, later a.period a.deadline a.low.0 a.high.0 p.result.next c.requires.0 c.requires.2 e))
+    let e = rw p.ensures.0 at p.ensures.1 in (
+      p.ensures.0,
+      omega (
+        arith,
+        p.ensures.0,
+        c.deadlines_in-more.ensures,
+        later a.period a.deadline a.low.0 a.high.0 p.result.next c.requires.0 c.requires.2 e,
+      ),
+    )

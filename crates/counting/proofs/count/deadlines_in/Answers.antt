@@ -1,5 +1,6 @@
 -- `count::deadlines_in`: two deadlines at most, or the count as it is defined.
-use Rattle.common.specs.Words.{◌-◌, div-le_self, arith, sym}
+use Rattle.std.specs.Prelude.{◌-◌}
+use Rattle.common.specs.Words.{div-le_self, arith, sym}
 use Rattle.model.proofs.Count.{count_from}
 use Rattle.counting.specs.Passed.{count_two}
 use Rattle.counting.proofs.count.deadlines_in.Goals as goal

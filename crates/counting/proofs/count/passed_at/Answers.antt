@@ -1,5 +1,6 @@
 -- `count::passed_at`: the definition's two cases; what is left of a period is the way to the next deadline.
-use Rattle.common.specs.Words.{◌-◌, div-le_self, div-add-mod', mod-lt, arith, sym}
+use Rattle.std.specs.Prelude.{◌-◌}
+use Rattle.common.specs.Words.{div-le_self, div-add-mod', mod-lt, arith, sym}
 use Rattle.model.proofs.Count.{count_before, count_from}
 use Rattle.counting.proofs.count.passed_at.Goals as goal
 

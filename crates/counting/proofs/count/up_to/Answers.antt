@@ -1,5 +1,6 @@
 -- `count::up_to`: the loop keeps the sum over the rows passed.
-use Rattle.common.specs.Words.{ℕ, List, Bool, ◌<◌, ◌+◌, ◌*◌, ◌≤◌, ◌≡◌, refl, sym, arith}
+use Rattle.std.specs.Prelude.{◌<◌, ◌+◌, ◌*◌, ◌≤◌, ◌≡◌}
+use Rattle.common.specs.Words.{ℕ, List, Bool, refl, sym, arith}
 use Rattle.common.specs.Totals.{sum, sum_next, sum_up}
 use Rattle.model.specs.Model.{row_up_to, up_to}
 use Rattle.plan.specs.Limits.{task_limit, last_tick}
@@ -9,7 +10,8 @@ use Rattle.counting.proofs.count.up_to.Goals as goal
 use Rattle.counting.proofs.count.up_to.Goals.{then-sends-base, else-sends-base}
 
 -- no part of the sum is more than all of it
-part_fits : {sends : List Bool} {period deadline : List ℕ} {tasks q : ℕ} → Lent sends period deadline tasks q → (i t : ℕ) → i < tasks → t ≤ last_tick →
+part_fits : {sends : List Bool} {period deadline : List ℕ} {tasks q : ℕ} → Lent sends period deadline tasks q → (i t : ℕ) →
+    i < tasks → t ≤ last_tick →
     let f = row_up_to (columns_at sends period deadline tasks q) t in sum f i + f i ≤ task_limit * last_tick
 unfolding up_to
 part_fits {sends} {period} {deadline} {tasks} {q} l i t h g =

@@ -1,5 +1,5 @@
 -- `count::up_to`: the loop keeps the sum over the rows passed.
-use Rattle.common.specs.Words.{◌≤◌, ◌-◌, ◌≡◌}
+use Rattle.std.specs.Prelude.{◌≤◌, ◌-◌, ◌≡◌}
 use Rattle.common.specs.Totals.{sum, sum_next, sum_up}
 use Rattle.model.specs.Model.{row_up_to}
 use Rattle.counting.specs.Columns.{columns_at}

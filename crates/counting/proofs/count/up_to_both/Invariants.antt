@@ -1,5 +1,5 @@
 -- `count::up_to_both`: the loop keeps both sums over the rows passed.
-use Rattle.common.specs.Words.{◌≤◌, ◌-◌, ◌≡◌}
+use Rattle.std.specs.Prelude.{◌≤◌, ◌-◌, ◌≡◌}
 use Rattle.common.specs.Totals.{sum}
 use Rattle.model.specs.Model.{row_up_to}
 use Rattle.counting.specs.Columns.{columns_at}

@@ -1,5 +1,6 @@
 -- `number::last_counted`: by whether the row goes after the task.
-use Rattle.common.specs.Words.{ℕ, ◌+◌, arith, Bool, true, false, not, cond, ◌≡◌}
+use Rattle.std.specs.Prelude.{◌+◌, ◌≡◌}
+use Rattle.common.specs.Words.{ℕ, arith, Bool, true, false, not, cond}
 use Rattle.common.specs.Totals.{only, only_most}
 use Rattle.counting.proofs.number.last_counted.Goals as goal
 

@@ -1,5 +1,6 @@
 -- `number::number_due`: the loop keeps the sum over the rows passed, each up to the task's message.
-use Rattle.common.specs.Words.{ℕ, List, Bool, ◌+◌, ◌*◌, ◌<◌, ◌≤◌, ◌-◌, ◌≡◌, refl, ap, arith}
+use Rattle.std.specs.Prelude.{◌+◌, ◌*◌, ◌<◌, ◌≤◌, ◌-◌, ◌≡◌}
+use Rattle.common.specs.Words.{ℕ, List, Bool, refl, ap, arith}
 use Rattle.common.specs.Totals.{sum, sum_next, sum_up}
 use Rattle.model.specs.Model.{Queue}
 use Rattle.calendar.specs.Calendar.{message}
@@ -10,7 +11,8 @@ use Rattle.counting.specs.Until.{row_until, until_on, until_off, until_near, unt
 use Rattle.counting.proofs.number.number_due.Goals as goal
 use Rattle.counting.proofs.number.number_due.Goals.{then-sends-base, else-sends-base}
 
-module _ {sends : List Bool} {period deadline : List ℕ} {tasks q : ℕ} (l : Lent sends period deadline tasks q) (priority : List ℕ) (due task : ℕ)
+module _ {sends : List Bool} {period deadline : List ℕ} {tasks q : ℕ} (l : Lent sends period deadline tasks q) (priority : List ℕ)
+    (due task : ℕ)
     (pos : 1 ≤ due) (h : due ≤ last_tick) where
   abbrev ordered : Queue
   ordered = ordered_at sends period deadline priority tasks q

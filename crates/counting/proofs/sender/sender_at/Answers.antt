@@ -1,6 +1,7 @@
 -- `sender::sender_at`: the loop has found no row so far.
 -- b is what the code found out of row i, where no row before it was the one
-use Rattle.common.specs.Words.{ℕ, ◌+◌, ◌<◌, arith, Bool, true, false, not, ◌≡◌, sym}
+use Rattle.std.specs.Prelude.{◌+◌, ◌<◌, ◌≡◌}
+use Rattle.common.specs.Words.{ℕ, arith, Bool, true, false, not, sym}
 use Rattle.common.proofs.Rows.{first_bad, first_bad_none, first_bad_more, first_bad_found}
 use Rattle.model.specs.Model.{sent_by}
 use Rattle.counting.specs.Columns.{ordered_at}

@@ -1,5 +1,6 @@
 -- `sender::sent_by`: the two tests of the definition.
-use Rattle.common.specs.Words.{ℕ, ◌+◌, ◌*◌, ◌≤◌, arith, true, false, get_or, ◌≡◌, sym, ◌∙◌}
+use Rattle.std.specs.Prelude.{◌+◌, ◌*◌, ◌≤◌, ◌≡◌}
+use Rattle.common.specs.Words.{ℕ, arith, true, false, get_or, sym, ◌∙◌}
 use Rattle.model.specs.Model.{has_deadline, due_at}
 use Rattle.common.specs.Tests.{having, and_right}
 use Rattle.model.proofs.Count.{has_job}

@@ -1,5 +1,6 @@
 -- `sender::tick_between`: the loop keeps fewer than n messages up to `early` and n or more up to `late`.
-use Rattle.common.specs.Words.{◌-◌, arith, ◌≡◌}
+use Rattle.std.specs.Prelude.{◌-◌, ◌≡◌}
+use Rattle.common.specs.Words.{arith}
 use Rattle.model.proofs.WayBack.{tick_of_is}
 use Rattle.plan.specs.Limits.{last_tick}
 use Rattle.counting.specs.Columns.{columns_at}

@@ -1,5 +1,5 @@
 -- `sender::tick_between`: the loop keeps fewer than n messages up to `early` and n or more up to `late`.
-use Rattle.common.specs.Words.{◌≤◌, ◌<◌, ◌-◌}
+use Rattle.std.specs.Prelude.{◌≤◌, ◌<◌, ◌-◌}
 use Rattle.model.specs.Model.{up_to}
 use Rattle.plan.specs.Limits.{last_tick}
 use Rattle.counting.specs.Columns.{columns_at}

@@ -1,5 +1,6 @@
 -- `digits::hex::decode_pairs`: a turn decodes one pair more.
-use Rattle.common.specs.Words.{◌-◌, ◌≤◌, ◌≡◌, length}
+use Rattle.std.specs.Prelude.{◌-◌, ◌≤◌, ◌≡◌}
+use Rattle.common.specs.Words.{length}
 use Rattle.digits.specs.HexLaws.{Passed}
 use Rattle.digits.proofs.hex.decode_pairs.Given as goal
 

@@ -1,5 +1,6 @@
 -- `digits::hex::put_bytes`: a turn writes the digits of one byte more.
-use Rattle.common.specs.Words.{◌-◌, ◌≤◌, ◌≡◌, length, take, sets}
+use Rattle.std.specs.Prelude.{◌-◌, ◌≤◌, ◌≡◌}
+use Rattle.common.specs.Words.{length, take, sets}
 use Rattle.digits.specs.Hex.{digits}
 use Rattle.digits.proofs.hex.put_bytes.Given as goal
 

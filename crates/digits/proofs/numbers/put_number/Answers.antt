@@ -1,6 +1,7 @@
 -- `digits::numbers::put_number`: a turn writes the last byte of what is left.
 -- what is left to write leads to the same end
-use Rattle.common.specs.Words.{◌+◌, ◌-◌, ◌≡◌, refl, sym, ap, ◌∙◌, arith, length, length-sets, rules}
+use Rattle.std.specs.Prelude.{◌+◌, ◌-◌, ◌≡◌}
+use Rattle.common.specs.Words.{refl, sym, ap, ◌∙◌, arith, length, length-sets, rules}
 use Rattle.digits.specs.NumberLaws.{write_none, write_more}
 use Rattle.digits.proofs.numbers.put_number.Goals as goal
 

@@ -1,6 +1,7 @@
 -- `digits::numbers::put_number`: a turn writes the last byte of what is left.
 -- what is left to write leads to the same end
-use Rattle.common.specs.Words.{◌-◌, ◌≤◌, ◌≡◌, length, sets}
+use Rattle.std.specs.Prelude.{◌-◌, ◌≤◌, ◌≡◌}
+use Rattle.common.specs.Words.{length, sets}
 use Rattle.digits.specs.Hex.{digits}
 use Rattle.digits.specs.Numbers.{in_bytes}
 use Rattle.digits.proofs.numbers.put_number.Given as goal

@@ -1,5 +1,6 @@
 -- `digits::numbers::value_at`: a turn takes in one byte more, and the number stays below 256 to the bytes read.
-use Rattle.common.specs.Words.{◌≡◌, sym, arith, rules}
+use Rattle.std.specs.Prelude.{◌≡◌}
+use Rattle.common.specs.Words.{sym, arith, rules}
 use Rattle.digits.specs.NumberLaws.{value_none, value_more, below_more, below_word}
 use Rattle.digits.proofs.numbers.value_at.Goals as goal
 

@@ -1,5 +1,5 @@
 -- `digits::numbers::value_at`: a turn takes in one byte more, and the number stays below 256 to the bytes read.
-use Rattle.common.specs.Words.{◌-◌, ◌^◌, ◌≤◌, ◌<◌, ◌≡◌}
+use Rattle.std.specs.Prelude.{◌-◌, ◌^◌, ◌≤◌, ◌<◌, ◌≡◌}
 use Rattle.digits.specs.Numbers.{value_at}
 use Rattle.digits.proofs.numbers.value_at.Given as goal
 
