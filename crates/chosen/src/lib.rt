@@ -15,7 +15,7 @@ use plan::Plan;
 use ways::cell;
 
 // How many rows were chosen, and the first of them.
-#[derive(Drop)]
+#[derive(Clone, Copy)]
 pub struct Chosen {
     pub count: usize,
     pub rows: [usize; Plan::TASKS],
