@@ -1,0 +1,19 @@
+-- `threads::subcomponent`.
+use Rattle.common.specs.Words.{rules, ℕ, List, ◌≡◌, refl, sym, ap, ◌∙◌}
+use Rattle.steps.specs.Lifted.{lift, first}
+use Rattle.phrases.specs.Phrases.{label}
+use Rattle.rows.specs.Said.{quiet}
+use Rattle.rows.specs.States.{State, state_of, does}
+use Rattle.rows.specs.Laws.{does_quiet}
+use Rattle.threads.specs.Threads.{subcomponent_of}
+use Rattle.threads.specs.Laws.{subcomponent_does}
+use Rattle.threads.proofs.subcomponent.Goals as goal
+
+pub returns : goal.returns
+returns c =
+    let u = c in let v = u in let a = v.args in
+    let o = a.process in let s = state_of a.text.now a.reading a.rows.now in
+    let labelled : state_of a.text.now u.on.result a.rows.now ≡ does s (quiet label) =
+    rw (u.on.ensures, u.label.ensures) (does_quiet s label) in
+    u.subcomponent_of.ensures ∙ ap (λ (t : State). does t (subcomponent_of o v.start_of-named.result)) labelled
+    ∙ rw v.start_of-named.ensures (subcomponent_does o s)

@@ -1,0 +1,19 @@
+-- `threads::subcomponents`: what is left to read says what the whole does.
+use Rattle.common.specs.Words.{rules, ℕ, List, [], ◌≡◌, refl, sym, ap, ◌∙◌, length}
+use Rattle.words.specs.Words.{is_name}
+use Rattle.steps.specs.Steps.{named}
+use Rattle.steps.specs.Lifted.{lift, size}
+use Rattle.steps.specs.Laws.{kind_on, kind_off}
+use Rattle.rows.specs.Said.{repeat}
+use Rattle.rows.specs.States.{State, state_of, does}
+use Rattle.rows.specs.Laws.{advances_on, repeat_on, repeat_off, repeat_less}
+use Rattle.threads.specs.Threads.{subcomponent, subcomponents}
+use Rattle.threads.specs.Laws.{subcomponent_moves}
+use Rattle.threads.proofs.subcomponents.Given as goal
+
+abbrev pub invariant-loop-rows : goal.invariant-loop-rows
+invariant-loop-rows l = (does (state_of l.text l.r l.rows) (repeat named (subcomponent l.process))
+    ≡ does (state_of l.text l.initial.r l.initial.rows) (repeat named (subcomponent l.process))) × (length l.rows ≡ length l.initial.rows)
+
+abbrev pub decreases-loop-rows : goal.decreases-loop-rows
+decreases-loop-rows l = size (lift l.text l.r.went)
