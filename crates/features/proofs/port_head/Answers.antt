@@ -1,0 +1,10 @@
+-- `features::port_head`.
+use Rattle.common.specs.Words.{rules, ℕ, List, ◌≡◌, refl, sym, ap, ◌∙◌}
+use Rattle.steps.specs.Lifted.{lift}
+use Rattle.features.specs.Laws.{head_then}
+use Rattle.features.proofs.port_head.Goals as goal
+
+pub returns : goal.returns
+returns c =
+    let k = c in let a = k.args in
+    rw (c.maybe_classifier.ensures, c.port_kind.ensures, k.direction.ensures) (head_then (lift a.text.now a.went))
