@@ -1,0 +1,10 @@
+-- `others::path_end`.
+use Rattle.common.specs.Words.{rules, ℕ, List, [], ◌≡◌, refl, sym, ap, ◌∙◌}
+use Rattle.steps.specs.Lifted.{lift}
+use Rattle.others.specs.Laws.{path_end_then}
+use Rattle.others.proofs.path_end.Goals as goal
+
+pub returns : goal.returns
+returns c =
+    let b = c in let a = b.args in
+    rw (c.symbol-2.ensures, c.path.ensures, b.symbol.ensures) (path_end_then (lift a.text.now a.went))
