@@ -1,5 +1,6 @@
 -- `features::feature`.
-use Rattle.common.specs.Words.{rules, ℕ, List, ◌≡◌, refl, sym, ap, ◌∙◌}
+use Rattle.std.specs.Prelude.{◌≡◌}
+use Rattle.common.specs.Words.{rules, ℕ, List, refl, sym, ap, ◌∙◌}
 use Rattle.steps.specs.Lifted.{lift, first}
 use Rattle.phrases.specs.Phrases.{label}
 use Rattle.rows.specs.Said.{quiet}

@@ -1,5 +1,6 @@
 -- `features::port`.
-use Rattle.common.specs.Words.{rules, ℕ, List, ◌≡◌, refl, sym, ap, ◌∙◌}
+use Rattle.std.specs.Prelude.{◌≡◌}
+use Rattle.common.specs.Words.{rules, ℕ, List, refl, sym, ap, ◌∙◌}
 use Rattle.words.specs.Kinds.{SEMICOLON}
 use Rattle.steps.specs.Steps.{the}
 use Rattle.rows.specs.Rows.{port_row}

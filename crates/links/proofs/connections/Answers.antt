@@ -1,5 +1,6 @@
 -- `links::connections`: what is left to read says what the whole does.
-use Rattle.common.specs.Words.{rules, ℕ, Bool, List, [], ◌≡◌, refl, sym, ap, ◌∙◌, length}
+use Rattle.std.specs.Prelude.{◌≡◌}
+use Rattle.common.specs.Words.{rules, ℕ, Bool, List, [], refl, sym, ap, ◌∙◌, length}
 use Rattle.tokens.specs.Tokens.{Token}
 use Rattle.steps.specs.Steps.{next}
 use Rattle.steps.specs.Lifted.{lift, size}

@@ -1,5 +1,6 @@
 -- `links::ends_of`.
-use Rattle.common.specs.Words.{rules, ℕ, List, ◌≡◌, refl, sym, ap, ◌∙◌}
+use Rattle.std.specs.Prelude.{◌≡◌}
+use Rattle.common.specs.Words.{rules, ℕ, List, refl, sym, ap, ◌∙◌}
 use Rattle.steps.specs.Steps.{◌⟫◌}
 use Rattle.steps.specs.Lifted.{lift}
 use Rattle.phrases.specs.Phrases.{link_kind, place, arrow}

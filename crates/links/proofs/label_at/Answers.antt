@@ -1,5 +1,6 @@
 -- `links::label_at`.
-use Rattle.common.specs.Words.{rules, ◌≡◌, sym, ◌∙◌}
+use Rattle.std.specs.Prelude.{◌≡◌}
+use Rattle.common.specs.Words.{rules, sym, ◌∙◌}
 use Rattle.links.specs.Links.{label_in}
 use Rattle.links.proofs.label_at.Goals as goal
 

@@ -1,5 +1,6 @@
 -- `links::link`.
-use Rattle.common.specs.Words.{rules, ℕ, true, false, not-true, not-false, List, ◌≡◌, refl, sym, ap, ◌∙◌}
+use Rattle.std.specs.Prelude.{◌≡◌}
+use Rattle.common.specs.Words.{rules, ℕ, true, false, not-true, not-false, List, refl, sym, ap, ◌∙◌}
 use Rattle.words.specs.Kinds.{SEMICOLON}
 use Rattle.steps.specs.Steps.{On, the}
 use Rattle.rows.specs.Rows.{Row, link_row}

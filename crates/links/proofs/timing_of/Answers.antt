@@ -1,5 +1,6 @@
 -- `links::timing_of`.
-use Rattle.common.specs.Words.{rules, ◌≡◌}
+use Rattle.std.specs.Prelude.{◌≡◌}
+use Rattle.common.specs.Words.{rules}
 use Rattle.common.specs.Tests.{tests}
 use Rattle.links.specs.Links.{timing_by}
 use Rattle.links.proofs.timing_of.Goals as goal

@@ -1,5 +1,6 @@
 -- `others::passed`: what is left to pass says what the whole does, with the least of the words that wait.
-use Rattle.common.specs.Words.{rules, ℕ, List, [], ◌≡◌, refl, sym, ap, ◌∙◌}
+use Rattle.std.specs.Prelude.{◌≡◌}
+use Rattle.common.specs.Words.{rules, ℕ, List, [], refl, sym, ap, ◌∙◌}
 use Rattle.common.specs.Words.{not, not-true, not-false}
 use Rattle.steps.specs.declared.Fault.{Fault}
 use Rattle.steps.specs.Faults.{no_fault, worst}

@@ -1,5 +1,6 @@
 -- `others::path_end`.
-use Rattle.common.specs.Words.{rules, ℕ, List, [], ◌≡◌, refl, sym, ap, ◌∙◌}
+use Rattle.std.specs.Prelude.{◌≡◌}
+use Rattle.common.specs.Words.{rules, ℕ, List, [], refl, sym, ap, ◌∙◌}
 use Rattle.steps.specs.Lifted.{lift}
 use Rattle.others.specs.Laws.{path_end_then}
 use Rattle.others.proofs.path_end.Goals as goal

@@ -1,6 +1,8 @@
 -- `others::waiting_after`.
-use Rattle.common.specs.Words.{rules, ℕ, List, [], ◌≡◌, refl, sym, ap, ◌∙◌}
-use Rattle.common.specs.Words.{inl, inr, true, false, not-true, not-false, ◌&&◌}
+use Rattle.std.specs.Prelude.{◌≡◌}
+use Rattle.common.specs.Words.{rules, ℕ, List, [], refl, sym, ap, ◌∙◌}
+use Rattle.std.specs.Prelude.{◌&&◌}
+use Rattle.common.specs.Words.{inl, inr, true, false, not-true, not-false}
 use Rattle.others.specs.Others.{reaching}
 use Rattle.others.specs.Laws.{waits_none, waits_same, waits_more}
 use Rattle.others.proofs.waiting_after.Goals as goal

@@ -1,5 +1,6 @@
 -- `threads::subcomponent_of`.
-use Rattle.common.specs.Words.{rules, ℕ, List, ◌≡◌, refl, sym, ap, ◌∙◌}
+use Rattle.std.specs.Prelude.{◌≡◌}
+use Rattle.common.specs.Words.{rules, ℕ, List, refl, sym, ap, ◌∙◌}
 use Rattle.steps.specs.Lifted.{lift, first_kind}
 use Rattle.phrases.specs.Phrases.{word_and_rest}
 use Rattle.rows.specs.States.{State, state_of, does}

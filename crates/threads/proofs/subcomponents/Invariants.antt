@@ -1,5 +1,6 @@
 -- `threads::subcomponents`: what is left to read says what the whole does.
-use Rattle.common.specs.Words.{rules, ℕ, List, [], ◌≡◌, refl, sym, ap, ◌∙◌, length}
+use Rattle.std.specs.Prelude.{◌≡◌}
+use Rattle.common.specs.Words.{rules, ℕ, List, [], refl, sym, ap, ◌∙◌, length}
 use Rattle.words.specs.Words.{is_name}
 use Rattle.steps.specs.Steps.{named}
 use Rattle.steps.specs.Lifted.{lift, size}

@@ -1,5 +1,6 @@
 -- `threads::thread`.
-use Rattle.common.specs.Words.{rules, ℕ, List, ◌≡◌, refl, sym, ap, ◌∙◌}
+use Rattle.std.specs.Prelude.{◌≡◌}
+use Rattle.common.specs.Words.{rules, ℕ, List, refl, sym, ap, ◌∙◌}
 use Rattle.rows.specs.States.{State, state_of, does}
 use Rattle.threads.specs.Threads.{thread_of}
 use Rattle.threads.specs.Laws.{thread_does}
