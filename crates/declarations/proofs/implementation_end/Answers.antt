@@ -1,0 +1,14 @@
+-- `declarations::implementation_end`.
+use Rattle.std.specs.Prelude.{◌≡◌}
+use Rattle.common.specs.Words.{rules, ℕ, List, refl, sym, ap, ◌∙◌}
+use Rattle.tokens.specs.Tokens.{from}
+use Rattle.steps.specs.Steps.{head}
+use Rattle.steps.specs.Lifted.{lift}
+use Rattle.declarations.specs.Laws.{implementation_end_then}
+use Rattle.declarations.proofs.implementation_end.Goals as goal
+
+pub returns : goal.returns
+returns c =
+    let b = c in let d = b in let a = d.args in
+    rw (c.symbol-2.ensures, c.own-2.ensures, b.symbol-typed.ensures, b.own.ensures, d.symbol.ensures)
+    (implementation_end_then (head (from a.text.now a.first)) (head (from a.text.now a.second)) (lift a.text.now a.went))
