@@ -1,6 +1,6 @@
 -- Promise 4: rows are the threads in text order, each with the Period, Deadline and Priority that section 4 finds; queues in order of first
 -- connection; a sender is in a queue exactly where a connection says so.
-use Rattle.std.specs.Prelude.{◌-◌, ◌/◌, ◌%◌, ◌<◌, ◌≤◌}
+use Rattle.std.specs.Prelude.{◌/◌, ◌%◌, ◌<◌, ◌≤◌}
 use Rattle.common.specs.Words.{ℕ, zero, suc, arith, Bool, true, false, true≢false, not, cond, List}
 use Rattle.std.specs.Prelude.{◌∷◌, ◌++◌}
 use Rattle.common.specs.Words.{[]}

@@ -1,5 +1,6 @@
 -- `chosen::queues`: the rows so far that are first connections to a queue were chosen.
-use Rattle.common.specs.Words.{rules, ◌≡◌, sym, ◌∙◌}
+use Rattle.std.specs.Prelude.{◌≡◌}
+use Rattle.common.specs.Words.{rules, sym, ◌∙◌}
 use Rattle.index.specs.Laws.{rows_length}
 use Rattle.chosen.specs.Chosen.{chosen_below, queues_of}
 use Rattle.chosen.specs.Laws.{none_chosen, choose_this, choose_not, chosen_count}
@@ -27,7 +28,8 @@ loop-k-preserved c =
     let k = l.loop-k.k in
     let is = c.is_queue.ensures in (
       elim c.if-is_queue.branch [
-        | then-is_queue w ↦ rw (choose_this s k (sym is ∙ w.if-is_queue.true)) (w.found-is ∙ w.more-found.ensures (chosen_below s k) l.loop-k.invariant.0)
+        | then-is_queue w ↦ rw (choose_this s k (sym is ∙ w.if-is_queue.true))
+            (w.found-is ∙ w.more-found.ensures (chosen_below s k) l.loop-k.invariant.0)
         | else-is_queue w ↦ rw (choose_not s k (sym is ∙ w.if-is_queue.false)) (w.found-is ∙ l.loop-k.invariant.0)
       ],
       search rules,

@@ -1,5 +1,6 @@
 -- `chosen::queues`: the rows so far that are first connections to a queue were chosen.
-use Rattle.common.specs.Words.{ℕ, Bool, List, ◌-◌, ◌≤◌, ◌≡◌, ◌&&◌, eqb}
+use Rattle.std.specs.Prelude.{◌-◌, ◌≤◌, ◌≡◌, ◌&&◌}
+use Rattle.common.specs.Words.{ℕ, Bool, List, eqb}
 use Rattle.rows.specs.Rows.{a_link}
 use Rattle.index.specs.Index.{rows_in}
 use Rattle.ways.specs.Ways.{cell}

@@ -1,5 +1,6 @@
 -- `chosen::threads`: the rows so far that are threads were chosen.
-use Rattle.common.specs.Words.{ℕ, Bool, List, ◌-◌, ◌≤◌, ◌≡◌, eqb}
+use Rattle.std.specs.Prelude.{◌-◌, ◌≤◌, ◌≡◌}
+use Rattle.common.specs.Words.{ℕ, Bool, List, eqb}
 use Rattle.rows.specs.Rows.{a_thread}
 use Rattle.index.specs.Index.{rows_in}
 use Rattle.ways.specs.Ways.{cell}
