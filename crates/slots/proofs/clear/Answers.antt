@@ -1,5 +1,6 @@
 -- `clear`: the first i bytes are zero, and the rest is as it was.
-use Rattle.common.specs.Words.{◌≡◌, refl, ◌*◌, arith, length-set, rules}
+use Rattle.std.specs.Prelude.{◌≡◌, ◌*◌}
+use Rattle.common.specs.Words.{refl, arith, length-set, rules}
 use borrow.Author.Fill.{fill_none, fill_more}
 use Rattle.slots.specs.Slots.{cleared}
 use Rattle.slots.proofs.clear.Goals as goal

@@ -1,5 +1,6 @@
 -- `clear`: the first i bytes are zero, and the rest is as it was.
-use Rattle.common.specs.Words.{◌≡◌, ◌++◌, ◌-◌, ◌≤◌, length, drop, replicate}
+use Rattle.std.specs.Prelude.{◌≡◌, ◌++◌, ◌-◌, ◌≤◌}
+use Rattle.common.specs.Words.{length, drop, replicate}
 use Rattle.slots.proofs.clear.Given as goal
 
 abbrev pub invariant-loop-i : goal.invariant-loop-i

@@ -1,5 +1,6 @@
 -- `copy`: after k turns the first k bytes are stored.
-use Rattle.common.specs.Words.{◌≡◌, ◌-◌, ◌≤◌, length, take, sets}
+use Rattle.std.specs.Prelude.{◌≡◌, ◌-◌, ◌≤◌}
+use Rattle.common.specs.Words.{length, take, sets}
 use Rattle.slots.proofs.copy.Given as goal
 
 abbrev pub invariant-loop-k : goal.invariant-loop-k

@@ -1,5 +1,6 @@
 -- `store`: the number's run of bytes and the payload's behind it are one run.
-use Rattle.common.specs.Words.{◌*◌, rules}
+use Rattle.std.specs.Prelude.{◌*◌}
+use Rattle.common.specs.Words.{rules}
 use Rattle.common.specs.Stores.{sets_append}
 use Rattle.slots.specs.Slots.{stored, bytes_of}
 use Rattle.slots.specs.SlotLaws.{bytes_length}

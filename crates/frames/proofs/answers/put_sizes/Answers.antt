@@ -1,5 +1,6 @@
 -- `frames::answers::put_sizes`: a turn writes one size more.
-use Rattle.common.specs.Words.{◌≡◌, refl, sym, ap, ◌∙◌, length, length-sets, rules}
+use Rattle.std.specs.Prelude.{◌≡◌}
+use Rattle.common.specs.Words.{refl, sym, ap, ◌∙◌, length, length-sets, rules}
 use Rattle.frames.specs.Writing.{sizes_none, sizes_more}
 use Rattle.frames.proofs.answers.put_sizes.Goals as goal
 

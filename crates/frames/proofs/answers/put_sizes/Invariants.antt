@@ -1,5 +1,6 @@
 -- `frames::answers::put_sizes`: a turn writes one size more.
-use Rattle.common.specs.Words.{◌-◌, ◌≤◌, ◌≡◌, length, sets}
+use Rattle.std.specs.Prelude.{◌-◌, ◌≤◌, ◌≡◌}
+use Rattle.common.specs.Words.{length, sets}
 use Rattle.digits.specs.Hex.{digits}
 use Rattle.frames.specs.Answers.{each_size}
 use Rattle.frames.proofs.answers.put_sizes.Given as goal

@@ -1,5 +1,6 @@
 -- `frames::answers::write_message`: a line of two numbers and the payload.
-use Rattle.common.specs.Words.{◌+◌, ◌*◌, arith, length}
+use Rattle.std.specs.Prelude.{◌+◌, ◌*◌}
+use Rattle.common.specs.Words.{arith, length}
 use Rattle.digits.specs.Numbers.{in_bytes}
 use Rattle.digits.specs.NumberLaws.{bytes_length}
 use Rattle.frames.specs.Answers.{message_bytes}

@@ -1,5 +1,6 @@
 -- `frames::answers::write_sizes`: a line of a number and the sizes.
-use Rattle.common.specs.Words.{◌+◌, ◌*◌, ◌≡◌, ◌++◌, length, length-append, arith}
+use Rattle.std.specs.Prelude.{◌+◌, ◌*◌, ◌≡◌, ◌++◌}
+use Rattle.common.specs.Words.{length, length-append, arith}
 use Rattle.digits.specs.Numbers.{in_bytes}
 use Rattle.digits.specs.NumberLaws.{bytes_length}
 use Rattle.frames.specs.Answers.{each_size, sizes_bytes}

@@ -1,6 +1,7 @@
 -- `frames::frame::payload_in`: what lies behind the first eight bytes, if anything does.
 -- nothing lies behind the end
-use Rattle.common.specs.Words.{ℕ, ◌-◌, ◌≤◌, arith, List, [], ◌≡◌, sym, length, drop, length-drop, take_all, ext_get_or, rules, lt-ltb, le-ltb}
+use Rattle.std.specs.Prelude.{◌-◌, ◌≤◌, ◌≡◌}
+use Rattle.common.specs.Words.{ℕ, arith, List, [], sym, length, drop, length-drop, take_all, ext_get_or, rules, lt-ltb, le-ltb}
 use Rattle.frames.specs.Frames.{payload_in}
 use Rattle.frames.proofs.frame.payload_in.Goals as goal
 

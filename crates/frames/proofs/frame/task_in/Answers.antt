@@ -1,5 +1,6 @@
 -- `frames::frame::task_in`: the length decides, and each has room for a period and a deadline.
-use Rattle.common.specs.Words.{ℕ, ◌≤◌, arith, Bool, true, false, ◌||◌, ◌≡◌, refl, eqb, eqb-true, length, rules}
+use Rattle.std.specs.Prelude.{◌≤◌, ◌||◌, ◌≡◌}
+use Rattle.common.specs.Words.{ℕ, arith, Bool, true, false, refl, eqb, eqb-true, length, rules}
 use Rattle.common.specs.Tests.{as_tested}
 use Rattle.frames.specs.Frames.{task_length}
 use Rattle.frames.proofs.frame.task_in.Goals as goal

@@ -1,5 +1,6 @@
 -- `sizing::cycle::cycle_good`: a hyperperiod over the limit fails rule 4; of one within it the messages are counted for rule 5.
-use Rattle.common.specs.Words.{◌<◌, sym, ◌∙◌}
+use Rattle.std.specs.Prelude.{◌<◌}
+use Rattle.common.specs.Words.{sym, ◌∙◌}
 use Rattle.common.specs.Tests.{tests}
 use Rattle.model.specs.Model.{hyperperiod}
 use Rattle.calendar.specs.Calendar.{capped_within, capped_over}

@@ -1,5 +1,6 @@
 -- `sizing::cycle::cycle_short`: the hyperperiod was found within the limit, or over it.
-use Rattle.common.specs.Words.{◌<◌, sym, ◌∙◌}
+use Rattle.std.specs.Prelude.{◌<◌}
+use Rattle.common.specs.Words.{sym, ◌∙◌}
 use Rattle.common.specs.Tests.{tests}
 use Rattle.model.specs.Model.{hyperperiod}
 use Rattle.calendar.specs.Calendar.{capped_within, capped_over}

@@ -1,6 +1,7 @@
 -- `sizing::cycle::hyperperiod_of`: the loop keeps the least common multiple of the receiver's period and the senders' passed.
 -- A multiple that is over the limit stays over it with more rows.
-use Rattle.common.specs.Words.{ℕ, ◌+◌, ◌<◌, le_refl, arith, true, false, cond, ⊎_elim, ◌≡◌, sym, ◌∙◌}
+use Rattle.std.specs.Prelude.{◌+◌, ◌<◌, ◌≡◌}
+use Rattle.common.specs.Words.{ℕ, le_refl, arith, true, false, cond, ⊎_elim, sym, ◌∙◌}
 use Rattle.common.specs.Tests.{tests, true_or_false}
 use Rattle.model.specs.Model.{Queue, lcm, multiple, hyperperiod}
 use Rattle.model.proofs.Multiple.{multiple_none, multiple_on, multiple_off, multiple_pos, multiple_mono}

@@ -1,6 +1,6 @@
 -- `sizing::cycle::hyperperiod_of`: the loop keeps the least common multiple of the receiver's period and the senders' passed.
 -- A multiple that is over the limit stays over it with more rows.
-use Rattle.common.specs.Words.{◌-◌, ◌≤◌, ◌≡◌}
+use Rattle.std.specs.Prelude.{◌-◌, ◌≤◌, ◌≡◌}
 use Rattle.model.specs.Model.{Queue, lcm, multiple, hyperperiod}
 use Rattle.plan.specs.Limits.{longest_hyperperiod}
 use Rattle.plan.specs.Plan.{queue_at}

@@ -1,5 +1,6 @@
 -- `sizing::cycle::messages_in`: the loop keeps the sum over the rows passed, at most one message a tick for each.
-use Rattle.common.specs.Words.{ℕ, ◌≤◌, div-le_self, arith, ◌≡◌, refl}
+use Rattle.std.specs.Prelude.{◌≤◌, ◌≡◌}
+use Rattle.common.specs.Words.{ℕ, div-le_self, arith, refl}
 use Rattle.common.specs.Totals.{sum, sum_next, only_most}
 use Rattle.model.specs.Model.{Queue, row_messages, messages}
 use Rattle.model.proofs.Order.{period_pos}

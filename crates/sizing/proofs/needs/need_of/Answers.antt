@@ -1,5 +1,6 @@
 -- `sizing::needs::need_of`: the loop keeps the sum over the rows passed, each from the horizon up to the task's message.
-use Rattle.common.specs.Words.{ℕ, List, Bool, ◌+◌, ◌*◌, ◌<◌, ◌≤◌, ◌-◌, ◌≡◌, refl, arith}
+use Rattle.std.specs.Prelude.{◌+◌, ◌*◌, ◌<◌, ◌≤◌, ◌-◌, ◌≡◌}
+use Rattle.common.specs.Words.{ℕ, List, Bool, refl, arith}
 use Rattle.common.specs.Totals.{sum, sum_next, sum_up}
 use Rattle.model.specs.Model.{Queue, up_to}
 use Rattle.plan.specs.Limits.{task_limit, last_tick}

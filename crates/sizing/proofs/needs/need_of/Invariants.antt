@@ -1,5 +1,5 @@
 -- `sizing::needs::need_of`: the loop keeps the sum over the rows passed, each from the horizon up to the task's message.
-use Rattle.common.specs.Words.{◌≤◌, ◌-◌, ◌≡◌}
+use Rattle.std.specs.Prelude.{◌≤◌, ◌-◌, ◌≡◌}
 use Rattle.common.specs.Totals.{sum, sum_next, sum_up}
 use Rattle.counting.specs.Columns.{ordered_at}
 use Rattle.sizing.specs.Above.{row_above}

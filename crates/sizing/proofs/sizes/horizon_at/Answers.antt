@@ -1,5 +1,6 @@
 -- `sizing::sizes::horizon_at`: nothing is outdated before the first messages have been wanted long enough.
-use Rattle.common.specs.Words.{arith, ◌≡◌, sym, ap}
+use Rattle.std.specs.Prelude.{◌≡◌}
+use Rattle.common.specs.Words.{arith, sym, ap}
 use Rattle.calendar.specs.Calendar.{tick}
 use Rattle.sizing.specs.Needs.{horizon_for, horizon_back}
 use Rattle.sizing.proofs.sizes.horizon_at.Goals as goal

@@ -1,6 +1,6 @@
 -- `sizing::sizes::row_slots`: the loop keeps the greatest need of the jobs passed, and asks one job for each horizon: the last that is
 -- released before it moves. The second hyperperiod ends before the last tick.
-use Rattle.common.specs.Words.{◌+◌, ◌-◌, ◌≤◌, ◌≡◌}
+use Rattle.std.specs.Prelude.{◌+◌, ◌-◌, ◌≤◌, ◌≡◌}
 use Rattle.common.specs.Totals.{most}
 use Rattle.counting.specs.Columns.{ordered_at}
 use Rattle.sizing.specs.Needs.{need_for}

@@ -1,5 +1,6 @@
 -- `sizing::sizes::slots_over`: the loop keeps the greatest share of the rows passed.
-use Rattle.common.specs.Words.{ℕ, ◌<◌, arith, ◌≡◌, refl, rules, get_or}
+use Rattle.std.specs.Prelude.{◌<◌, ◌≡◌}
+use Rattle.common.specs.Words.{ℕ, arith, refl, rules, get_or}
 use Rattle.common.specs.Totals.{only, most, most_next}
 use Rattle.model.specs.Model.{row_slots, slots_over}
 use Rattle.model.proofs.Order.{period_pos}
@@ -62,7 +63,8 @@ loop-i-preserved c =
     let q = queue_at a.plan a.queue in
     let e : s.share-row.result ≡ only (q.sends l.loop-i.i) (row_slots q a.ticks l.loop-i.i) =
     rw (s.share-row.ensures, w.wanted_for-wanted.ensures q refl, row_slots_ordered a.plan a.queue a.ticks l.loop-i.i) in
-    (omega arith, rw (most_next (λ i. only (q.sends i) (row_slots q a.ticks i)) l.loop-i.i, ← l.loop-i.invariant.1, ← e) c.larger-greatest.ensures)
+    (omega arith, rw (most_next (λ i. only (q.sends i) (row_slots q a.ticks i)) l.loop-i.i, ← l.loop-i.invariant.1, ← e)
+        c.larger-greatest.ensures)
 
 pub returns : goal.returns
 unfolding slots_over

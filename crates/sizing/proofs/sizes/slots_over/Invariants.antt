@@ -1,5 +1,5 @@
 -- `sizing::sizes::slots_over`: the loop keeps the greatest share of the rows passed.
-use Rattle.common.specs.Words.{◌-◌, ◌≤◌, ◌≡◌}
+use Rattle.std.specs.Prelude.{◌-◌, ◌≤◌, ◌≡◌}
 use Rattle.common.specs.Totals.{only, most}
 use Rattle.model.specs.Model.{row_slots}
 use Rattle.plan.specs.Plan.{queue_at}
