@@ -1,0 +1,44 @@
+-- `texts::pieces`: what is left to read says what the whole does.
+use Rattle.std.specs.Prelude.{◌≡◌}
+use Rattle.common.specs.Words.{rules, refl, ap, ◌∙◌, length}
+use Rattle.steps.specs.Lifted.{lift, size}
+use Rattle.rows.specs.States.{State, state_of, does}
+use Rattle.rows.specs.Laws.{repeat_on, repeat_off, repeat_less}
+use Rattle.texts.specs.Texts.{begins_piece, piece, pieces}
+use Rattle.texts.specs.Laws.{piece_on, piece_off, piece_advances}
+use Rattle.texts.proofs.pieces.Goals as goal
+
+pub loop-rows-init : goal.loop-rows-init
+loop-rows-init c = (refl, refl)
+
+pub loop-rows-smaller : goal.loop-rows-smaller
+loop-rows-smaller c =
+    let f = c in let k = f in let l = k in let a = l.args in
+    let s = state_of a.text.now l.loop-rows.r l.loop-rows.rows in
+    rw (ap (λ (x : State). x.went) f.piece-r.ensures)
+    (repeat_less begins_piece piece piece_advances s (piece_on s.went
+    (rw (← k.next_of.ensures, ← k.begins_piece.ensures) f.loop-rows-test.true)))
+
+pub loop-rows-preserved : goal.loop-rows-preserved
+unfolding pieces
+loop-rows-preserved c =
+    let f = c in let k = f in let l = k in let a = l.args in
+    let s = state_of a.text.now l.loop-rows.r l.loop-rows.rows in (
+      rw f.piece-r.ensures
+          (repeat_on begins_piece piece piece_advances s (piece_on s.went
+          (rw (← k.next_of.ensures, ← k.begins_piece.ensures) f.loop-rows-test.true))
+          ∙ l.loop-rows.invariant.0),
+      search rules,
+    )
+
+pub shape_of-rows : goal.shape_of-rows
+shape_of-rows c = c.loop-rows.invariant.1
+
+pub returns : goal.returns
+unfolding pieces
+returns c =
+    let k = c in let l = k in let a = l.args in
+    let s = state_of a.text.now l.loop-rows.r l.loop-rows.rows in
+    repeat_off begins_piece piece piece_advances s (piece_off s.went
+    (rw (← k.next_of.ensures, ← k.begins_piece.ensures) c.loop-rows-test.false))
+    ∙ l.loop-rows.invariant.0

@@ -1,0 +1,20 @@
+-- `texts::read`.
+use Rattle.std.specs.Prelude.{◌≡◌}
+use Rattle.common.specs.Words.{rules, ap, ◌∙◌}
+use Rattle.rows.specs.Said.{quiet}
+use Rattle.rows.specs.States.{State, state_of, does, begun}
+use Rattle.rows.specs.Laws.{does_quiet}
+use Rattle.texts.specs.Texts.{pieces, finished}
+use Rattle.texts.specs.Laws.{text_does}
+use Rattle.texts.proofs.read.Goals as goal
+
+pub returns : goal.returns
+returns c =
+    let u = c in let b = u in let a = b.args in
+    let p = a.text.now in let m = a.rows.now in let s = state_of p begun m in
+    let inner = state_of p u.pieces-whole.result u.pieces-whole.new.rows in
+    let first : state_of p b.begun.result m ≡ s = rw b.begun.ensures in
+    rw (c.on.ensures, c.end.ensures)
+    (does_quiet inner finished
+    ∙ ap (λ (t : State). does t (quiet finished)) (u.pieces-whole.ensures ∙ ap (λ (t : State). does t pieces) first)
+    ∙ text_does s)
