@@ -1,11 +1,10 @@
 -- `chosen::threads`: the rows so far that are threads were chosen.
 use Rattle.std.specs.Prelude.{◌≡◌}
-use Rattle.common.specs.Words.{rules, sym, ◌∙◌, eq-eqb, ne_eqb}
+use Rattle.common.specs.Words.{rules, eq-eqb, ne_eqb}
 use Rattle.index.specs.Laws.{rows_length}
-use Rattle.chosen.specs.Chosen.{chosen_below, threads_of}
+use Rattle.chosen.specs.Chosen.{threads_of}
 use Rattle.chosen.specs.Laws.{none_chosen, choose_this, choose_not, chosen_count}
 use Rattle.chosen.proofs.threads.Invariants.{so}
-use Rattle.chosen.proofs.threads.Goals.{then-cell-eq-THREAD, else-cell-eq-THREAD}
 use Rattle.chosen.proofs.threads.Goals as goal
 
 pub loop-k-init : goal.loop-k-init
@@ -24,13 +23,11 @@ loop-k-preserved c =
     let a = l.args in
     let s = so a.rows.now a.count in
     let k = l.loop-k.k in
+    let yes = choose_this s k in
+    let no = choose_not s k in
+    let i = c.loop-k.invariant.0 in
     let is = c.cell.ensures in (
-      elim c.if-cell-eq-THREAD.branch [
-        | then-cell-eq-THREAD w ↦ rw (choose_this s k (eq-eqb _ _ (sym is ∙ w.if-cell-eq-THREAD.true)))
-            (w.found-is ∙ w.more-found.ensures (chosen_below s k) l.loop-k.invariant.0)
-        | else-cell-eq-THREAD w ↦ rw (choose_not s k (ne_eqb _ _ (λ e. w.if-cell-eq-THREAD.false (is ∙ e))))
-            (w.found-is ∙ l.loop-k.invariant.0)
-      ],
+      search (rules, eq-eqb, ne_eqb, yes, no, is, i),
       search rules,
     )
 
