@@ -5,7 +5,7 @@ use Rattle.std.specs.Prelude.{◌≡◌}
 use Rattle.common.specs.Words.{refl, sym, ◌∙◌, ltb, eqb}
 use Rattle.common.specs.Words.{length}
 use Rattle.common.specs.Words.{get_or, ltb-true, ltb-false, leb-false, eqb-true, not-false, le-ltb, lt-ltb, lt-leb, eq-eqb}
-use Rattle.common.specs.Tests.{as_tested}
+use Rattle.common.specs.Tests.{passed}
 use Rattle.common.specs.Totals.{sum_next}
 use Rattle.model.specs.Model.{Sender, receiver_period, wanted_for, wanted_until}
 use Rattle.model.proofs.Order.{period_pos}
