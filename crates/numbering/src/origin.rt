@@ -12,7 +12,7 @@ use calendar::{Job, Number, Tick};
 use plan::Plan;
 
 // A message's sender, as its row, and its job.
-#[derive(Drop)]
+#[derive(Clone, Copy)]
 pub struct Origin {
     pub task: usize,
     pub job: Job,

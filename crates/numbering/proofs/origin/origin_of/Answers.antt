@@ -1,5 +1,6 @@
 -- `origin::origin_of`: the tick and the row that were found are those of the message with the number.
-use Rattle.common.specs.Words.{ℕ, ◌<◌, ◌≤◌, arith, not, ◌≡◌, ap, ◌∙◌, get_or}
+use Rattle.std.specs.Prelude.{◌<◌, ◌≤◌, ◌≡◌}
+use Rattle.common.specs.Words.{ℕ, arith, not, ap, ◌∙◌, get_or}
 use Rattle.common.proofs.Rows.{first_bad}
 use Rattle.common.specs.Tests.{having}
 use Rattle.model.specs.Model.{up_to, followers, due_at, precedes, tick_of, sent_by, sender_of, job_of}
@@ -12,8 +13,7 @@ use Rattle.plan.specs.Limits.{task_limit, last_tick}
 use Rattle.plan.specs.Plan.{queue_at, Usable}
 use Rattle.plan.specs.declared.Plan.{Plan}
 use Rattle.counting.specs.Columns.{plan_columns, plan_ordered, lent, up_to_columns, tick_of_columns}
-use Rattle.numbering.proofs.origin.origin_of.Statement.{statement}
-use Rattle.numbering.proofs.origin.origin_of.Tie as tie
+use Rattle.numbering.proofs.origin.origin_of.Goals as goal
 
 module _ (p : Plan) (q n : ℕ) (t : Tick) (e : t ≡ tick (tick_of (plan_columns p q) last_tick n)) where
   tick_is : t.0 ≡ tick_of (queue_at p q) last_tick n
@@ -35,44 +35,40 @@ module _ (p : Plan) (q n : ℕ) (t : Tick) (e : t ≡ tick (tick_of (plan_column
           omega (arith, tick_there (queue_at p q) u.valid n last_tick pos h),
         ))
 
-tick-between-requires : tie.Need-tick-between-requires
-tick-between-requires c κs =
-    let k = c.before.before.before.before in
+pub tick_between-at-requires : goal.tick_between-at-requires
+tick_between-at-requires c =
+    let k = c in
     let a = k.args in
     let u = k.requires.0 in (
-      lent a.t1 a.queue u,
+      lent a.plan a.queue u,
       omega arith,
-      rw (up_to_columns a.t1 a.queue 0, up_to_zero (queue_at a.t1 a.queue) u.valid) (omega (arith, k.requires.1)),
-      rw (up_to_columns a.t1 a.queue last_tick) k.requires.2,
+      rw (up_to_columns a.plan a.queue 0, up_to_zero (queue_at a.plan a.queue) u.valid) (omega (arith, k.requires.1)),
+      rw (up_to_columns a.plan a.queue last_tick) k.requires.2,
     )
 
-sender-at-requires : tie.Need-sender-at-requires
-sender-at-requires c κs =
-    let b = c.before.before.before.before.before in
-    let k = b.before.before.before.before.before in
+pub sender_at-task-requires : goal.sender_at-task-requires
+sender_at-task-requires c =
+    let b = c in
+    let k = b in
     let a = k.args in
-    let q = queue_at a.t1 a.queue in (
-      lent a.t1 a.queue k.requires.0,
-      rw (tick_is a.t1 a.queue a.n.0 _ b.tick-between.ensures)
+    let q = queue_at a.plan a.queue in (
+      lent a.plan a.queue k.requires.0,
+      rw (tick_is a.plan a.queue a.n.0 _ b.tick_between-at.ensures)
           (tick_of_found q k.requires.0.valid last_tick a.n.0 k.requires.1 k.requires.2).1,
     )
 
-job-due-requires : tie.Need-job-due-requires
-job-due-requires c κs =
-    let b = c.before.before.before.before.before.before in
-    let k = b.before.before.before.before.before in
+pub job_due-requires : goal.job_due-requires
+job_due-requires c =
+    let b = c in
+    let k = b in
     let a = k.args in
-    row_good a.t1 a.queue a.n.0 _ b.tick-between.ensures _ c.sender-at.ensures k.requires.0 k.requires.1 k.requires.2
+    row_good a.plan a.queue a.n.0 _ b.tick_between-at.ensures _ c.sender_at-task.ensures k.requires.0 k.requires.1 k.requires.2
 
-returns : tie.Need-returns
+pub returns : goal.returns
 unfolding job_of
 returns c =
-    let s = c.before in
-    let b = s.before.before.before.before.before.before in
-    let a = b.before.before.before.before.before.args in
-    let t = b.tick-between.ensures in
-    rw (c.job-due.ensures, sender a.t1 a.queue a.n.0 _ t _ s.sender-at.ensures, tick_is a.t1 a.queue a.n.0 _ t)
-
-pub origin_of_spec : {M : Type 1} → statement M
-origin_of_spec =
-    tie.close (tie.spec tick-between-requires sender-at-requires job-due-requires returns)
+    let s = c in
+    let b = s in
+    let a = b.args in
+    let t = b.tick_between-at.ensures in
+    rw (c.job_due.ensures, sender a.plan a.queue a.n.0 _ t _ s.sender_at-task.ensures, tick_is a.plan a.queue a.n.0 _ t)
