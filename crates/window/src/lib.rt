@@ -16,7 +16,7 @@ use plan::Plan;
 
 // The window of a receiver's job: the messages with deadlines after tick `low` and up to tick `high`, which have the numbers after
 // `before` and up to `end`.
-#[derive(Drop)]
+#[derive(Clone, Copy)]
 pub struct WindowEnds {
     pub low: Tick,
     pub high: Tick,
@@ -25,7 +25,7 @@ pub struct WindowEnds {
 }
 
 // A queue, and the window of one of its receiver's jobs. No queue has the row QUEUES: there nothing is remembered.
-#[derive(Drop)]
+#[derive(Clone, Copy)]
 pub struct Remembered {
     pub queue: usize,
     pub window: WindowEnds,

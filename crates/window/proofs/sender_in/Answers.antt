@@ -1,13 +1,13 @@
 -- `sender_in`: the row that is due at the number's deadline and has the number.
-use Rattle.common.specs.Words.{not, ◌≡◌, ◌∙◌, ap, ℕ, ◌≤◌, ltb, rules}
+use Rattle.std.specs.Prelude.{◌≡◌, ◌≤◌}
+use Rattle.common.specs.Words.{not, ◌∙◌, ap, ℕ, ltb}
 use Rattle.common.proofs.Rows.{first_bad, first_bad_is}
 use Rattle.model.specs.Model.{Queue, up_to, tick_of, sent_by, sender_of}
 use Rattle.calendar.specs.Calendar.{tick}
 use Rattle.calendar.specs.declared.Tick.{Tick}
 use Rattle.plan.specs.Limits.{last_tick}
 use Rattle.counting.specs.Columns.{tick_of_ordered}
-use Rattle.window.proofs.sender_in.Statement.{statement}
-use Rattle.window.proofs.sender_in.Tie as tie
+use Rattle.window.proofs.sender_in.Goals as goal
 
 tick_within : (q : Queue) (most n : ℕ) → tick_of q most n ≤ most
 unfolding tick_of
@@ -18,14 +18,11 @@ sender_is : (q : Queue) (most n : ℕ) (t : Tick) → t ≡ tick (tick_of q most
 unfolding sender_of
 sender_is q most n t e = rw e
 
-sender-at-requires : tie.Need-sender-at-requires
-sender-at-requires c κs = rw c.tick-between.ensures (c.before.requires.0, tick_within _ last_tick _)
+pub sender_at-requires : goal.sender_at-requires
+sender_at-requires c = rw c.tick_between-at.ensures (c.requires.0, tick_within _ last_tick _)
 
-returns : tie.Need-returns
+pub returns : goal.returns
 returns c =
-    let k = c.before.before in
+    let k = c in
     let e = tick_of_ordered k.requires.0 k.args.priority.now last_tick k.args.n.0 in
-    c.sender-at.ensures ∙ sender_is _ _ _ _ (c.before.tick-between.ensures ∙ ap tick e)
-
-pub sender_in_spec : {M : Type 1} → statement M
-sender_in_spec = tie.close (tie.spec (λ c κs. search rules) sender-at-requires returns)
+    c.sender_at.ensures ∙ sender_is _ _ _ _ (c.tick_between-at.ensures ∙ ap tick e)
