@@ -1,18 +1,15 @@
 -- Laws of connections: what the code does one after another is what the rules say, and how far they go.
 use Rattle.std.specs.Prelude.{◌&&◌, ◌≡◌}
-use Rattle.common.specs.Words.{ℕ, arith, Bool, true, false, cond, List, [], refl, sym, ap, ◌∙◌, eqb, eq-eqb, ne_eqb}
-use Rattle.common.specs.Words.{get_or}
-use Rattle.words.specs.Words.{is_name}
-use Rattle.words.specs.Kinds.{ENDED, DOT, SEMICOLON}
+use Rattle.common.specs.Words.{ℕ, arith, Bool, true, false, cond, List, refl, ap, ◌∙◌, ne_eqb}
+use Rattle.words.specs.Kinds.{SEMICOLON}
 use Rattle.tokens.specs.Tokens.{Token}
 use Rattle.tokens.specs.Laws.{cases}
-use Rattle.steps.specs.Steps.{Step, On, Stop, ◌⟫◌, head, next, second, the, name}
+use Rattle.steps.specs.Steps.{Step, On, Stop, ◌⟫◌, head, next, second, the}
 use Rattle.steps.specs.Lifted.{first, first_kind, second_kind, holds}
-use Rattle.steps.specs.Laws.{Moved, Moves, moved_then, moved_less, moves_the, kind_on, kind_off, went, goes_none}
-use Rattle.phrases.specs.Phrases.{link_kind, place, arrow, maybe_label, word_and_rest}
+use Rattle.steps.specs.Laws.{Moved, Moves, moved_then, moved_less, moves_the}
+use Rattle.phrases.specs.Phrases.{maybe_label, word_and_rest}
 use Rattle.phrases.specs.Laws.{link_kind_moves, place_moves, arrow_moves, word_moves, maybe_label_moves}
-use Rattle.rows.specs.Rows.{Row}
-use Rattle.rows.specs.Said.{Said, Rule, quiet, ◌⨟◌, optionally, repeat, put, apart}
+use Rattle.rows.specs.Said.{Said, Rule, quiet, ◌⨟◌, optionally, put, apart}
 use Rattle.rows.specs.States.{State, does}
 use Rattle.rows.specs.Laws.{MovesOn, moved_onward, moves_quiet, moves_put, moves_apart, moves_repeat, advances_on, by_went}
 use Rattle.rows.specs.Laws.{does_then, does_then_at, does_on, does_off, optionally_off, moves_optionally}

@@ -1,9 +1,8 @@
 -- AADL.md, section 2: connections of a process implementation.
 use Rattle.std.specs.Prelude.{◌&&◌, ◌≡◌}
-use Rattle.common.specs.Words.{ℕ, Bool, true, false, cond, List, [], eqb, get_or}
+use Rattle.common.specs.Words.{ℕ, Bool, true, false, cond, List, eqb, get_or}
 use Rattle.words.specs.Words.{is_name}
 use Rattle.words.specs.Kinds.{DOT, SEMICOLON, DELAYING, DATA, ACCESS, BUS, VIRTUAL, SUBPROGRAM, FEATURE, PARAMETER, PORT, EVENT}
-use Rattle.tokens.specs.Tokens.{Token}
 use Rattle.steps.specs.Steps.{Step, On, ◌⟫◌, head, next, second, the, name}
 use Rattle.steps.specs.Lifted.{lift, first, first_kind}
 use Rattle.links.specs.declared.Ends.{Ends}

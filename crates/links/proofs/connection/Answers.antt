@@ -1,6 +1,6 @@
 -- `links::connection`.
 use Rattle.std.specs.Prelude.{◌≡◌}
-use Rattle.common.specs.Words.{rules, ℕ, List, refl, sym, ap, ◌∙◌}
+use Rattle.common.specs.Words.{ap, ◌∙◌}
 use Rattle.phrases.specs.Phrases.{maybe_label}
 use Rattle.rows.specs.Said.{quiet}
 use Rattle.rows.specs.States.{State, state_of, does}

@@ -1,11 +1,10 @@
 -- `links::connection_of`.
 use Rattle.std.specs.Prelude.{◌≡◌}
-use Rattle.common.specs.Words.{rules, ℕ, List, refl, sym, ap, ◌∙◌}
-use Rattle.steps.specs.Lifted.{lift, first_kind}
+use Rattle.common.specs.Words.{ap, ◌∙◌}
 use Rattle.phrases.specs.Phrases.{word_and_rest}
 use Rattle.rows.specs.States.{State, state_of, does}
 use Rattle.rows.specs.Laws.{does_quiet, does_apart, fresh, with_props}
-use Rattle.links.specs.Links.{other_kind, link}
+use Rattle.links.specs.Links.{link}
 use Rattle.links.specs.Laws.{other_does, between_does}
 use Rattle.links.proofs.connection_of.Goals as goal
 

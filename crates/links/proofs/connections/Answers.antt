@@ -1,12 +1,7 @@
 -- `links::connections`: what is left to read says what the whole does.
-use Rattle.std.specs.Prelude.{◌≡◌}
-use Rattle.common.specs.Words.{rules, ℕ, Bool, List, [], refl, sym, ap, ◌∙◌, length}
-use Rattle.tokens.specs.Tokens.{Token}
-use Rattle.steps.specs.Steps.{next}
-use Rattle.steps.specs.Lifted.{lift, size}
+use Rattle.common.specs.Words.{rules, refl, ap, ◌∙◌}
 use Rattle.steps.specs.Laws.{kind_on, kind_off}
-use Rattle.rows.specs.Said.{repeat}
-use Rattle.rows.specs.States.{State, state_of, does}
+use Rattle.rows.specs.States.{State, state_of}
 use Rattle.rows.specs.Laws.{advances_on, repeat_on, repeat_off, repeat_less}
 use Rattle.links.specs.Links.{connection_kind, connection, connections}
 use Rattle.links.specs.Laws.{connection_moves}

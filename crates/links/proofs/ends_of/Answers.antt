@@ -1,6 +1,5 @@
 -- `links::ends_of`.
 use Rattle.std.specs.Prelude.{◌≡◌}
-use Rattle.common.specs.Words.{rules, ℕ, List, refl, sym, ap, ◌∙◌}
 use Rattle.steps.specs.Steps.{◌⟫◌}
 use Rattle.steps.specs.Lifted.{lift}
 use Rattle.phrases.specs.Phrases.{link_kind, place, arrow}

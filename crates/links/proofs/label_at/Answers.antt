@@ -1,6 +1,5 @@
 -- `links::label_at`.
-use Rattle.std.specs.Prelude.{◌≡◌}
-use Rattle.common.specs.Words.{rules, sym, ◌∙◌}
+use Rattle.common.specs.Words.{rules}
 use Rattle.links.specs.Links.{label_in}
 use Rattle.links.proofs.label_at.Goals as goal
 

@@ -1,6 +1,6 @@
 -- `links::link`.
 use Rattle.std.specs.Prelude.{◌≡◌}
-use Rattle.common.specs.Words.{rules, ℕ, true, false, not-true, not-false, List, refl, sym, ap, ◌∙◌}
+use Rattle.common.specs.Words.{ℕ, true, false, List, sym, ap, ◌∙◌}
 use Rattle.words.specs.Kinds.{SEMICOLON}
 use Rattle.steps.specs.Steps.{On, the}
 use Rattle.rows.specs.Rows.{Row, link_row}
@@ -9,7 +9,7 @@ use Rattle.rows.specs.States.{State, state_of, does}
 use Rattle.rows.specs.Laws.{does_quiet}
 use Rattle.properties.specs.Properties.{of_port, maybe_block_in}
 use Rattle.links.specs.Links.{ends, linked}
-use Rattle.links.specs.Laws.{whole, ends_does, link_between, link_passed}
+use Rattle.links.specs.Laws.{ends_does, link_between, link_passed}
 use Rattle.links.proofs.link.Goals as goal
 
 pub returns-then-not-between : goal.returns-then-not-between

@@ -1,6 +1,4 @@
 -- `links::timing_of`.
-use Rattle.std.specs.Prelude.{◌≡◌}
-use Rattle.common.specs.Words.{rules}
 use Rattle.common.specs.Tests.{tests}
 use Rattle.links.specs.Links.{timing_by}
 use Rattle.links.proofs.timing_of.Goals as goal
