@@ -2,11 +2,11 @@
 use Rattle.common.specs.Words.{ℕ, Bool, true, false, cond, List, eqb}
 use Rattle.words.specs.Kinds.{THREAD, DOT, SEMICOLON, DATA, SUBPROGRAM, ABSTRACT}
 use Rattle.tokens.specs.Tokens.{Token}
-use Rattle.steps.specs.Steps.{Step, ◌⟫◌, head, next, named, the, name}
+use Rattle.steps.specs.Steps.{◌⟫◌, head, next, named, the, name}
 use Rattle.steps.specs.Lifted.{first}
 use Rattle.phrases.specs.Phrases.{scopes, classifier, label, word_and_rest}
 use Rattle.rows.specs.Rows.{thread_row}
-use Rattle.rows.specs.Said.{Said, Rule, quiet, ◌⨟◌, repeat, put, apart}
+use Rattle.rows.specs.Said.{Rule, quiet, ◌⨟◌, repeat, put, apart}
 use Rattle.properties.specs.Properties.{of_thread, maybe_block_in}
 
 -- "In a classifier only the last type's name and the implementation's count"

@@ -1,6 +1,4 @@
 -- `threads::is_other_component`.
-use Rattle.std.specs.Prelude.{◌≡◌}
-use Rattle.common.specs.Words.{rules, ℕ, List, refl, sym, ap, ◌∙◌}
 use Rattle.common.specs.Tests.{tests}
 use Rattle.threads.specs.Threads.{other_component}
 use Rattle.threads.proofs.is_other_component.Goals as goal

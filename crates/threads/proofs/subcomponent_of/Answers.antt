@@ -1,11 +1,10 @@
 -- `threads::subcomponent_of`.
 use Rattle.std.specs.Prelude.{◌≡◌}
-use Rattle.common.specs.Words.{rules, ℕ, List, refl, sym, ap, ◌∙◌}
-use Rattle.steps.specs.Lifted.{lift, first_kind}
+use Rattle.common.specs.Words.{ap, ◌∙◌}
 use Rattle.phrases.specs.Phrases.{word_and_rest}
 use Rattle.rows.specs.States.{State, state_of, does}
 use Rattle.rows.specs.Laws.{does_quiet, does_apart, fresh, with_props}
-use Rattle.threads.specs.Threads.{other_component, thread}
+use Rattle.threads.specs.Threads.{thread}
 use Rattle.threads.specs.Laws.{other_does, threaded_does}
 use Rattle.threads.proofs.subcomponent_of.Goals as goal
 

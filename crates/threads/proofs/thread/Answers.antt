@@ -1,6 +1,5 @@
 -- `threads::thread`.
-use Rattle.std.specs.Prelude.{◌≡◌}
-use Rattle.common.specs.Words.{rules, ℕ, List, refl, sym, ap, ◌∙◌}
+use Rattle.common.specs.Words.{ap, ◌∙◌}
 use Rattle.rows.specs.States.{State, state_of, does}
 use Rattle.threads.specs.Threads.{thread_of}
 use Rattle.threads.specs.Laws.{thread_does}

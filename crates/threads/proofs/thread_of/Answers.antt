@@ -1,6 +1,6 @@
 -- `threads::thread_of`.
 use Rattle.std.specs.Prelude.{◌≡◌}
-use Rattle.common.specs.Words.{rules, ℕ, List, refl, sym, ap, ◌∙◌}
+use Rattle.common.specs.Words.{rules, ℕ, List, refl, ap, ◌∙◌}
 use Rattle.words.specs.Kinds.{SEMICOLON}
 use Rattle.steps.specs.Steps.{the}
 use Rattle.steps.specs.Lifted.{lift}
