@@ -6,7 +6,7 @@ use Rattle.steps.specs.Steps.{Step, On, ◌⟫◌, head, next, named, the}
 use Rattle.steps.specs.Lifted.{first_kind, second_kind}
 use Rattle.phrases.specs.Phrases.{direction, port_kind, maybe_classifier, label, word_and_rest}
 use Rattle.rows.specs.Rows.{port_row}
-use Rattle.rows.specs.Said.{Said, Rule, quiet, ◌⨟◌, repeat, put, apart}
+use Rattle.rows.specs.Said.{Rule, quiet, ◌⨟◌, repeat, put, apart}
 use Rattle.properties.specs.Properties.{of_port, maybe_block_in}
 
 -- a port's direction: 1 in, 2 out, 3 in out

@@ -1,16 +1,15 @@
 -- Laws of features: what the code does one after another is what the rules say, and how far they go.
 use Rattle.std.specs.Prelude.{◌≡◌}
-use Rattle.common.specs.Words.{ℕ, arith, Bool, true, false, cond, List, refl, sym, ap, ◌∙◌, eqb, eq-eqb, ne_eqb}
-use Rattle.words.specs.Kinds.{ENDED, IN, OUT, SEMICOLON}
-use Rattle.tokens.specs.Tokens.{Token}
+use Rattle.common.specs.Words.{ℕ, arith, true, false, refl, ap, ◌∙◌, eq-eqb, ne_eqb}
+use Rattle.words.specs.Kinds.{IN, OUT, SEMICOLON}
 use Rattle.tokens.specs.Laws.{cases}
 use Rattle.steps.specs.Steps.{Step, On, Stop, ◌⟫◌, head, next, named, the}
-use Rattle.steps.specs.Lifted.{first, first_kind, second_kind, holds}
+use Rattle.steps.specs.Lifted.{first, first_kind, second_kind}
 use Rattle.steps.specs.Laws.{Moved, Moves, moved_then, moved_less, moves_the, kind_on, kind_off}
 use Rattle.phrases.specs.Phrases.{direction, port_kind, maybe_classifier, label, word_and_rest}
 use Rattle.phrases.specs.Laws.{direction_moves, port_kind_moves, maybe_classifier_moves, label_moves, word_moves}
 use Rattle.rows.specs.Rows.{port_row}
-use Rattle.rows.specs.Said.{Said, Rule, quiet, ◌⨟◌, repeat, put, apart}
+use Rattle.rows.specs.Said.{Said, quiet, ◌⨟◌, put, apart}
 use Rattle.rows.specs.States.{State, does}
 use Rattle.rows.specs.Laws.{MovesOn, moved_onward, moves_quiet, moves_put, moves_apart, moves_repeat, advances_on, does_then}
 use Rattle.rows.specs.Laws.{does_then_at, does_on, does_off}

@@ -1,6 +1,5 @@
 -- `features::direction_of`.
-use Rattle.std.specs.Prelude.{◌≡◌}
-use Rattle.common.specs.Words.{rules, ℕ, List, refl, sym, ap, ◌∙◌}
+use Rattle.common.specs.Words.{sym, ◌∙◌}
 use Rattle.steps.specs.Lifted.{lift}
 use Rattle.features.specs.Laws.{way_out, way_both, way_in}
 use Rattle.features.proofs.direction_of.Goals as goal

@@ -1,7 +1,6 @@
 -- `features::feature`.
 use Rattle.std.specs.Prelude.{◌≡◌}
-use Rattle.common.specs.Words.{rules, ℕ, List, refl, sym, ap, ◌∙◌}
-use Rattle.steps.specs.Lifted.{lift, first}
+use Rattle.common.specs.Words.{ap, ◌∙◌}
 use Rattle.phrases.specs.Phrases.{label}
 use Rattle.rows.specs.Said.{quiet}
 use Rattle.rows.specs.States.{State, state_of, does}

@@ -1,11 +1,10 @@
 -- `features::feature_of`.
 use Rattle.std.specs.Prelude.{◌≡◌}
-use Rattle.common.specs.Words.{rules, ℕ, List, refl, sym, ap, ◌∙◌}
-use Rattle.steps.specs.Lifted.{lift, first_kind}
+use Rattle.common.specs.Words.{ap, ◌∙◌}
 use Rattle.phrases.specs.Phrases.{word_and_rest}
 use Rattle.rows.specs.States.{State, state_of, does}
 use Rattle.rows.specs.Laws.{does_quiet, does_apart, fresh, with_props}
-use Rattle.features.specs.Features.{other_feature, port}
+use Rattle.features.specs.Features.{port}
 use Rattle.features.specs.Laws.{other_does, ported_does}
 use Rattle.features.proofs.feature_of.Goals as goal
 

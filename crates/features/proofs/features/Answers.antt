@@ -1,12 +1,9 @@
 -- `features::features`: what is left to read says what the whole does.
-use Rattle.std.specs.Prelude.{◌≡◌}
-use Rattle.common.specs.Words.{rules, ℕ, List, [], refl, sym, ap, ◌∙◌, length}
+use Rattle.common.specs.Words.{rules, refl, ap, ◌∙◌}
 use Rattle.words.specs.Words.{is_name}
 use Rattle.steps.specs.Steps.{named}
-use Rattle.steps.specs.Lifted.{lift, size}
 use Rattle.steps.specs.Laws.{kind_on, kind_off}
-use Rattle.rows.specs.Said.{repeat}
-use Rattle.rows.specs.States.{State, state_of, does}
+use Rattle.rows.specs.States.{State, state_of}
 use Rattle.rows.specs.Laws.{advances_on, repeat_on, repeat_off, repeat_less}
 use Rattle.features.specs.Features.{feature, features}
 use Rattle.features.specs.Laws.{feature_moves}

@@ -1,15 +1,11 @@
 -- `features::features`: what is left to read says what the whole does.
 use Rattle.std.specs.Prelude.{◌≡◌}
-use Rattle.common.specs.Words.{rules, ℕ, List, [], refl, sym, ap, ◌∙◌, length}
-use Rattle.words.specs.Words.{is_name}
+use Rattle.common.specs.Words.{length}
 use Rattle.steps.specs.Steps.{named}
 use Rattle.steps.specs.Lifted.{lift, size}
-use Rattle.steps.specs.Laws.{kind_on, kind_off}
 use Rattle.rows.specs.Said.{repeat}
-use Rattle.rows.specs.States.{State, state_of, does}
-use Rattle.rows.specs.Laws.{advances_on, repeat_on, repeat_off, repeat_less}
-use Rattle.features.specs.Features.{feature, features}
-use Rattle.features.specs.Laws.{feature_moves}
+use Rattle.rows.specs.States.{state_of, does}
+use Rattle.features.specs.Features.{feature}
 use Rattle.features.proofs.features.Given as goal
 
 abbrev pub invariant-loop-rows : goal.invariant-loop-rows

@@ -1,6 +1,4 @@
 -- `features::is_other_feature`.
-use Rattle.std.specs.Prelude.{◌≡◌}
-use Rattle.common.specs.Words.{rules, ℕ, List, refl, sym, ap, ◌∙◌}
 use Rattle.common.specs.Tests.{tests}
 use Rattle.features.specs.Features.{other_feature}
 use Rattle.features.proofs.is_other_feature.Goals as goal

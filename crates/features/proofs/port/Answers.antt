@@ -1,6 +1,5 @@
 -- `features::port`.
-use Rattle.std.specs.Prelude.{◌≡◌}
-use Rattle.common.specs.Words.{rules, ℕ, List, refl, sym, ap, ◌∙◌}
+use Rattle.common.specs.Words.{rules, ℕ, List, refl, ap, ◌∙◌}
 use Rattle.words.specs.Kinds.{SEMICOLON}
 use Rattle.steps.specs.Steps.{the}
 use Rattle.rows.specs.Rows.{port_row}
@@ -8,7 +7,7 @@ use Rattle.rows.specs.Said.{quiet, put}
 use Rattle.rows.specs.States.{State, state_of, does}
 use Rattle.rows.specs.Laws.{does_quiet}
 use Rattle.properties.specs.Properties.{of_port, maybe_block_in}
-use Rattle.features.specs.Features.{direction_of, port_head}
+use Rattle.features.specs.Features.{port_head}
 use Rattle.features.specs.Laws.{port_does}
 use Rattle.features.proofs.port.Goals as goal
 

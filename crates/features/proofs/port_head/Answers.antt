@@ -1,6 +1,4 @@
 -- `features::port_head`.
-use Rattle.std.specs.Prelude.{◌≡◌}
-use Rattle.common.specs.Words.{rules, ℕ, List, refl, sym, ap, ◌∙◌}
 use Rattle.steps.specs.Lifted.{lift}
 use Rattle.features.specs.Laws.{head_then}
 use Rattle.features.proofs.port_head.Goals as goal
