@@ -1,21 +1,21 @@
 -- Laws of other declarations: what the code does token by token is what the rule says, and how far it goes.
-use Rattle.std.specs.Prelude.{◌<◌, ◌∷◌, ◌++◌, ◌≡◌}
-use Rattle.common.specs.Words.{ℕ, suc, arith, Bool, true, false, true≢false, cond, List, [], length}
+use Rattle.std.specs.Prelude.{◌<◌, ◌∷◌, ◌≡◌}
+use Rattle.common.specs.Words.{ℕ, arith, Bool, true, false, true≢false, List, []}
 use Rattle.std.specs.Prelude.{◌&&◌, ◌⊎◌}
-use Rattle.common.specs.Words.{refl, sym, ap, ◌∙◌, eqb, eq-eqb, ne_eqb, inl, inr}
+use Rattle.common.specs.Words.{refl, sym, ap, ◌∙◌, eq-eqb, ne_eqb, inl, inr}
 use Rattle.words.specs.Kinds.{ENDED, END, SEMICOLON, APPLIES}
 use Rattle.tokens.specs.Tokens.{Token}
 use Rattle.tokens.specs.Laws.{cases}
 use Rattle.steps.specs.declared.Fault.{Fault}
 use Rattle.steps.specs.Faults.{fault, no_fault, worse, worst}
-use Rattle.steps.specs.Steps.{Step, On, Stop, ◌⟫◌, head, next, any, the}
+use Rattle.steps.specs.Steps.{Step, On, Stop, ◌⟫◌, next, any, the}
 use Rattle.steps.specs.Lifted.{first, first_kind, second_kind, size}
 use Rattle.steps.specs.Laws.{Moved, Moves, moved_on, moves_any, moved_any, moved_then, moved_less, moves_the, went, goes_none}
 use Rattle.phrases.specs.Phrases.{path}
 use Rattle.phrases.specs.Laws.{path_moves}
 use Rattle.rows.specs.Rows.{Store, with_rows}
 use Rattle.rows.specs.declared.Reading.{Reading}
-use Rattle.rows.specs.Said.{Said, Rule, quiet, ◌⨟◌}
+use Rattle.rows.specs.Said.{Said, quiet, ◌⨟◌}
 use Rattle.rows.specs.States.{State, state, reading, does}
 use Rattle.properties.specs.Properties.{from_outside}
 use Rattle.rows.specs.Laws.{MovesOn, moved_onward, moves_quiet, by_went, does_then, does_then_at, worst_append}

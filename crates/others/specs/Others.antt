@@ -8,7 +8,7 @@ use Rattle.steps.specs.declared.Fault.{Fault}
 use Rattle.steps.specs.Faults.{fault}
 use Rattle.steps.specs.Steps.{Step, On, ◌⟫◌, next, any, the}
 use Rattle.phrases.specs.Phrases.{path}
-use Rattle.rows.specs.Said.{Said, said, Rule, quiet, ◌⨟◌}
+use Rattle.rows.specs.Said.{said, Rule, quiet, ◌⨟◌}
 use Rattle.properties.specs.Properties.{from_outside}
 
 -- "other: abstract, bus, data, .." (thread where "group" follows is told by the declaration's choice)

@@ -1,5 +1,4 @@
 -- `others::begins_other`.
-use Rattle.common.specs.Words.{rules}
 use Rattle.common.specs.Tests.{tests}
 use Rattle.others.specs.Others.{other_kind}
 use Rattle.others.proofs.begins_other.Goals as goal

@@ -1,5 +1,4 @@
 -- `others::goes_on`.
-use Rattle.common.specs.Words.{rules}
 use Rattle.common.specs.Tests.{tests}
 use Rattle.others.specs.Others.{last_kind}
 use Rattle.others.proofs.goes_on.Goals as goal

@@ -1,5 +1,4 @@
 -- `others::is_outside`.
-use Rattle.common.specs.Words.{rules}
 use Rattle.common.specs.Tests.{tests}
 use Rattle.others.specs.Others.{outside_kind}
 use Rattle.others.proofs.is_outside.Goals as goal

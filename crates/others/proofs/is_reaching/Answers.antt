@@ -1,5 +1,4 @@
 -- `others::is_reaching`.
-use Rattle.common.specs.Words.{rules}
 use Rattle.common.specs.Tests.{tests}
 use Rattle.others.specs.Others.{reaching}
 use Rattle.others.proofs.is_reaching.Goals as goal

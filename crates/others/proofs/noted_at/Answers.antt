@@ -1,6 +1,5 @@
 -- `others::noted_at`.
-use Rattle.std.specs.Prelude.{◌≡◌}
-use Rattle.common.specs.Words.{rules, sym, ◌∙◌, eq-eqb, ne_eqb}
+use Rattle.common.specs.Words.{rules, eq-eqb, ne_eqb}
 use Rattle.words.specs.Kinds.{APPLIES}
 use Rattle.steps.specs.Faults.{worst}
 use Rattle.steps.specs.Worse.{worst_first}

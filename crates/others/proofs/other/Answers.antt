@@ -1,6 +1,6 @@
 -- `others::other`.
 use Rattle.std.specs.Prelude.{◌≡◌}
-use Rattle.common.specs.Words.{rules, ℕ, List, [], refl, sym, ap, ◌∙◌}
+use Rattle.common.specs.Words.{[], ap, ◌∙◌}
 use Rattle.steps.specs.Steps.{any}
 use Rattle.rows.specs.Said.{quiet}
 use Rattle.rows.specs.States.{State, state_of, does}
@@ -19,5 +19,5 @@ returns c =
     rw (c.on-2.ensures, c.path_end.ensures)
     (does_quiet inner path_end
     ∙ ap (λ (t : State). does t (quiet path_end)) (b.passed-inner.ensures m
-        ∙ ap (λ (t : State). does t (passing k.is_outside-outside.result [])) first)
+    ∙ ap (λ (t : State). does t (passing k.is_outside-outside.result [])) first)
     ∙ other_does s k.is_outside-outside.result (k.is_outside-outside.ensures ∙ ap outside_kind k.next_of.ensures))

@@ -1,13 +1,11 @@
 -- `others::passed`: what is left to pass says what the whole does, with the least of the words that wait.
 use Rattle.std.specs.Prelude.{◌≡◌}
-use Rattle.common.specs.Words.{rules, ℕ, List, [], refl, sym, ap, ◌∙◌}
-use Rattle.common.specs.Words.{not, not-true, not-false}
+use Rattle.common.specs.Words.{ℕ, List, []}
 use Rattle.steps.specs.declared.Fault.{Fault}
 use Rattle.steps.specs.Faults.{no_fault, worst}
 use Rattle.steps.specs.Lifted.{lift, size}
-use Rattle.rows.specs.States.{State, state_of, does}
-use Rattle.others.specs.Others.{last_kind, passing}
-use Rattle.others.specs.Laws.{passing_on, passing_off, passing_less, waits}
+use Rattle.rows.specs.States.{state_of, does}
+use Rattle.others.specs.Others.{passing}
 use Rattle.others.proofs.passed.Given as goal
 
 abbrev pub invariant-loop-waiting : goal.invariant-loop-waiting

@@ -1,6 +1,4 @@
 -- `others::path_end`.
-use Rattle.std.specs.Prelude.{◌≡◌}
-use Rattle.common.specs.Words.{rules, ℕ, List, [], refl, sym, ap, ◌∙◌}
 use Rattle.steps.specs.Lifted.{lift}
 use Rattle.others.specs.Laws.{path_end_then}
 use Rattle.others.proofs.path_end.Goals as goal

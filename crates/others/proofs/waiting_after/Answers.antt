@@ -1,9 +1,6 @@
 -- `others::waiting_after`.
-use Rattle.std.specs.Prelude.{◌≡◌}
-use Rattle.common.specs.Words.{rules, ℕ, List, [], refl, sym, ap, ◌∙◌}
-use Rattle.std.specs.Prelude.{◌&&◌}
-use Rattle.common.specs.Words.{inl, inr, true, false, not-true, not-false}
-use Rattle.others.specs.Others.{reaching}
+use Rattle.common.specs.Words.{sym, ◌∙◌}
+use Rattle.common.specs.Words.{inl, inr}
 use Rattle.others.specs.Laws.{waits_none, waits_same, waits_more}
 use Rattle.others.proofs.waiting_after.Goals as goal
 
