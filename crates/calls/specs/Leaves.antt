@@ -1,7 +1,6 @@
 -- Frames 04 and 05 as the code takes them: what a call leaves of the columns that it is lent makes the call of the definition.
 use Rattle.std.specs.Prelude.{◌≤◌, ◌&&◌, ◌≡◌}
-use Rattle.common.specs.Words.{ℕ, arith, Bool, true, false, cond, List, [], refl, length, length-take, length-drop}
-use Rattle.common.specs.Words.{sets}
+use Rattle.common.specs.Words.{ℕ, arith, Bool, true, false, cond, List, [], refl, length, length-take, length-drop, sets}
 use Rattle.plan.specs.Limits.{payload_bytes}
 use Rattle.slots.specs.Slots as slots
 use Rattle.running.specs.Calls as running

@@ -1,11 +1,8 @@
 -- Laws of choosing: one row more, and what was chosen is below the count.
-use Rattle.std.specs.Prelude.{◌+◌, ◌<◌, ◌≤◌, ◌∷◌, ◌++◌}
-use Rattle.common.specs.Words.{ℕ, zero, suc, arith, add-one, Bool, true, false, cond, List, []}
-use Rattle.std.specs.Prelude.{◌≡◌}
-use Rattle.common.specs.Words.{append-nil}
-use Rattle.common.specs.Words.{refl, sym, ap, ◌∙◌, ⊎_elim, eqb, eqb-true, eqb-false, ltb, lt-ltb, le-ltb, length, length-append, length-set}
-use Rattle.common.specs.Words.{length-replicate, get_or, get_or-append, get_or-eq_default, get_or_at, get_or-set_same, get_or-set_other}
-use Rattle.common.specs.Words.{get_or-replicate, ext_get_or, set, replicate}
+use Rattle.std.specs.Prelude.{◌+◌, ◌<◌, ◌≤◌, ◌∷◌, ◌++◌, ◌≡◌}
+use Rattle.common.specs.Words.{ℕ, zero, suc, arith, add-one, Bool, true, false, cond, List, [], append-nil, refl, sym, ap, ◌∙◌, ⊎_elim, eqb}
+use Rattle.common.specs.Words.{eqb-true, eqb-false, ltb, lt-ltb, le-ltb, length, length-append, length-set, length-replicate, get_or, get_or-append}
+use Rattle.common.specs.Words.{get_or-eq_default, get_or_at, get_or-set_same, get_or-set_other, get_or-replicate, ext_get_or, set, replicate}
 use Rattle.common.specs.Tests.{lt_or_le, true_or_false}
 use Rattle.common.specs.Table.{table_length, table_at}
 use Rattle.index.specs.Index.{rows_in}

@@ -1,10 +1,7 @@
 -- Laws of tests over the rows below n: that every row passes, and which row is the first that does not.
-use Rattle.std.specs.Prelude.{◌+◌, ◌<◌, ◌≤◌, ◌⊎◌}
-use Rattle.common.specs.Words.{ℕ, zero, suc, arith, add-one, Bool, true, false, cond, not, inl, inr}
-use Rattle.std.specs.Prelude.{◌↔◌}
-use Rattle.common.specs.Words.{⊎_elim}
-use Rattle.std.specs.Prelude.{◌≡◌}
-use Rattle.common.specs.Words.{refl, sym, subst, ◌∙◌, ltb, lt-ltb, le-ltb, ltb-true, not-true, not-false}
+use Rattle.std.specs.Prelude.{◌+◌, ◌<◌, ◌≤◌, ◌⊎◌, ◌↔◌, ◌≡◌}
+use Rattle.common.specs.Words.{ℕ, zero, suc, arith, add-one, Bool, true, false, cond, not, inl, inr, ⊎_elim, refl, sym, subst, ◌∙◌, ltb}
+use Rattle.common.specs.Words.{lt-ltb, le-ltb, ltb-true, not-true, not-false}
 use Rattle.common.specs.Tests.{lt_or_le, true_or_false, having, clash, and_left, and_right}
 unfoldable pub use Rattle.common.specs.Terms.{every, first_bad, some}
 pub use Rattle.common.specs.Terms.{FirstBad}

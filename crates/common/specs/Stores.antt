@@ -1,12 +1,8 @@
 -- A run of stores, `sets l i vs`: what it leaves at each index, in each part, and after one store more.
-use Rattle.std.specs.Prelude.{◌≡◌, ◌∷◌, ◌++◌, ◌+◌, ◌≤◌, ◌<◌}
-use Rattle.common.specs.Words.{refl, sym, ap, ◌∙◌, List, [], ℕ, zero, suc}
-use Rattle.common.specs.Words.{add-zero, not-suc-le-zero}
-use Rattle.std.specs.Prelude.{◌⊎◌}
-use Rattle.common.specs.Words.{le_of_suc-le-suc, add-one, arith, ⊎_elim, length, get_or, take, drop, set, length-set, length-take}
-use Rattle.common.specs.Words.{length-drop, sets, length-sets, take-suc, length-take-le, get_or-set_same, get_or-set_other, get_or-take, get_or-drop}
-use Rattle.std.specs.Prelude.{◌-◌}
-use Rattle.common.specs.Words.{ext_get_or, drop-cons}
+use Rattle.std.specs.Prelude.{◌≡◌, ◌∷◌, ◌++◌, ◌+◌, ◌≤◌, ◌<◌, ◌⊎◌, ◌-◌}
+use Rattle.common.specs.Words.{refl, sym, ap, ◌∙◌, List, [], ℕ, zero, suc, add-zero, not-suc-le-zero, le_of_suc-le-suc, add-one, arith}
+use Rattle.common.specs.Words.{⊎_elim, length, get_or, take, drop, set, length-set, length-take, length-drop, sets, length-sets, take-suc}
+use Rattle.common.specs.Words.{length-take-le, get_or-set_same, get_or-set_other, get_or-take, get_or-drop, ext_get_or, drop-cons}
 pub use Rattle.common.specs.Terms.{part}
 
 -- one run after another is one run

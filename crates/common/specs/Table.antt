@@ -1,9 +1,7 @@
 -- Laws of the list f 0, f 1, .., f (n - 1): what a loop that fills an array from the front leaves.
 use Rattle.std.specs.Prelude.{◌≡◌, ◌∷◌, ◌+◌, ◌<◌}
-use Rattle.common.specs.Words.{refl, sym, ◌∙◌, List, [], ℕ, zero, suc, not-suc-le-zero}
-use Rattle.common.specs.Words.{le_of_suc-le-suc}
-use Rattle.common.specs.Words.{eq-or-lt_of_le, add-one, arith, ⊎_elim, length, get_or, take, set, length-append, get_or-append, take_all}
-use Rattle.common.specs.Words.{take-suc-set, get_or_at}
+use Rattle.common.specs.Words.{refl, sym, ◌∙◌, List, [], ℕ, zero, suc, not-suc-le-zero, le_of_suc-le-suc, eq-or-lt_of_le, add-one, arith}
+use Rattle.common.specs.Words.{⊎_elim, length, get_or, take, set, length-append, get_or-append, take_all, take-suc-set, get_or_at}
 unfoldable pub use Rattle.common.specs.Terms.{table}
 
 module _ {A : Type 0} where

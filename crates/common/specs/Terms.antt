@@ -1,11 +1,7 @@
 -- Our own words beside the kit's, for what pages of definitions say of the numbers below n, most often the rows of a table, and of lists.
 -- There are definitions only; the laws about them stand in Totals, Rows, Table and Stores, which pass these names on.
-use Rattle.std.specs.Prelude.{◌+◌, ◌*◌, ◌/◌, ◌%◌, ◌<◌, ◌≤◌, ◌&&◌}
-use Rattle.common.specs.Words.{ℕ, zero, suc, max, Bool, true, false, cond, not}
-use Rattle.std.specs.Prelude.{◌≡◌}
-use Rattle.common.specs.Words.{List, []}
-use Rattle.std.specs.Prelude.{◌∷◌, ◌++◌}
-use Rattle.common.specs.Words.{eqb, ltb, take, drop}
+use Rattle.std.specs.Prelude.{◌+◌, ◌*◌, ◌/◌, ◌%◌, ◌<◌, ◌≤◌, ◌&&◌, ◌≡◌, ◌∷◌, ◌++◌}
+use Rattle.common.specs.Words.{ℕ, zero, suc, max, Bool, true, false, cond, not, List, [], eqb, ltb, take, drop}
 
 -- n where the test passes, else 0
 abbrev pub only : Bool → ℕ → ℕ

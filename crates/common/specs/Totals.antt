@@ -1,9 +1,6 @@
 -- Laws of totals over the numbers below n, most often the rows of a table: sums and greatest values.
-use Rattle.std.specs.Prelude.{◌+◌, ◌*◌, ◌<◌, ◌≤◌, ◌↔◌}
-use Rattle.common.specs.Words.{ℕ, zero, suc, max, arith, add-one, Bool, true, false, ⊎_elim}
-use Rattle.std.specs.Prelude.{◌≡◌}
-use Rattle.common.specs.Words.{refl, subst}
-use Rattle.common.specs.Words.{eqb, eq-eqb, ne_eqb}
+use Rattle.std.specs.Prelude.{◌+◌, ◌*◌, ◌<◌, ◌≤◌, ◌↔◌, ◌≡◌}
+use Rattle.common.specs.Words.{ℕ, zero, suc, max, arith, add-one, Bool, true, false, ⊎_elim, refl, subst, eqb, eq-eqb, ne_eqb}
 use Rattle.common.specs.Tests.{lt_or_le}
 unfoldable pub use Rattle.common.specs.Terms.{only, sum, most}
 

@@ -10,8 +10,8 @@ use Rattle.frames.specs.Frames.{frame_of, payload_in}
 use Rattle.frames.specs.Writing.{line_length, sizes_length}
 use Rattle.frames.specs.Answers.{longest_answer, sizes_bytes, stored_bytes, message_bytes, gap_bytes, empty_bytes, refusal_bytes, bad_bytes, line_of}
 use Rattle.console.specs.Types.{Plan, Refusal, Answer, State, Started, Sent, Received, Frame, Desk}
-use Rattle.desk.specs.Desk.{Turn, silent, bad, row_turn, planned, start_turn, plan_turn, go_turn, frame_turn, bytes_turn, line_turn}
-use Rattle.desk.specs.Desk.{call_turn, table_turn}
+use Rattle.desk.specs.Desk.{Turn, silent, bad, row_turn, planned, start_turn, plan_turn, go_turn, frame_turn, bytes_turn, line_turn, call_turn}
+use Rattle.desk.specs.Desk.{table_turn}
 use Rattle.calls.specs.CallLines.{sent_bytes, filler, received_bytes, unmoved, call_of, line_call, is_call}
 use Rattle.desk.specs.Starts.{started_queues}
 use Rattle.calls.specs.Leaves.{view_short}

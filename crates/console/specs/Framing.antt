@@ -1,8 +1,6 @@
 -- A line's bytes as the code takes them: a line that is no frame has none, and no bytes are no frame either.
-use Rattle.std.specs.Prelude.{◌≤◌, ◌≡◌}
-use Rattle.common.specs.Words.{ℕ, arith, Bool, true, false, cond, List, [], refl, sym, ◌∙◌, length, take, le-ltb}
-use Rattle.std.specs.Prelude.{◌<◌}
-use Rattle.common.specs.Words.{lt-ltb}
+use Rattle.std.specs.Prelude.{◌≤◌, ◌≡◌, ◌<◌}
+use Rattle.common.specs.Words.{ℕ, arith, Bool, true, false, cond, List, [], refl, sym, ◌∙◌, length, take, le-ltb, lt-ltb}
 use Rattle.digits.specs.Hex.{most_bytes, is_line, bytes_in, decoded_of, decoded_into}
 use Rattle.digits.specs.HexLaws.{decoded_holds, decoded_none}
 use Rattle.console.specs.Types.{Decoded, Frame, Desk, Stepped, Reply}

@@ -11,11 +11,10 @@ use Rattle.frames.specs.Answers.{longest_answer}
 use Rattle.frames.specs.Frames.{frame_of, payload_in}
 use Rattle.console.specs.Types.{Plan, Answer, State, Started, Frame, Desk}
 pub use Rattle.desk.specs.Desk.{SoundDesk}
-use Rattle.desk.specs.Desk.{new_desk, square_of, planned, with_task, with_queue, with_run, with_state}
+use Rattle.desk.specs.Desk.{new_desk, square_of, planned, with_task, with_queue, with_run, with_state, Turn, silent, bad, row_turn, start_turn}
+use Rattle.desk.specs.Desk.{plan_turn, go_turn, call_turn, table_turn, frame_turn, bytes_turn, line_turn}
 use Rattle.console.specs.Step.{step_of}
-use Rattle.desk.specs.Desk.{Turn, silent, bad, row_turn, start_turn, plan_turn, go_turn, call_turn, table_turn, frame_turn, bytes_turn}
 use Rattle.calls.specs.CallLines.{is_call}
-use Rattle.desk.specs.Desk.{line_turn}
 
 pub sound_new : SoundDesk new_desk
 sound_new = record { sound = λ e. absurd (clash e refl) }

@@ -15,9 +15,8 @@ use Rattle.rows.specs.States.{State, does}
 use Rattle.rows.specs.Laws.{MovesOn, by_went, moved_onward, moves_quiet, moves_put, does_then, does_then_at, does_then_going}
 use Rattle.declarations.specs.Sections.{sections}
 use Rattle.declarations.specs.SectionLaws.{sections_moves}
-use Rattle.declarations.specs.Declarations.{extension, maybe_extends, type_name, parent_in, type_head, type_end, thread_type}
-use Rattle.declarations.specs.Declarations.{first_name, second_name, implementation_head, implementation_end, implementation}
-use Rattle.declarations.specs.Declarations.{thread_implementation, process_implementation}
+use Rattle.declarations.specs.Declarations.{extension, maybe_extends, type_name, parent_in, type_head, type_end, thread_type, first_name, second_name}
+use Rattle.declarations.specs.Declarations.{implementation_head, implementation_end, implementation, thread_implementation, process_implementation}
 
 -- ## In a row
 

@@ -16,8 +16,7 @@ use Rattle.features.specs.Pays.{features_pay}
 use Rattle.threads.specs.Pays.{subcomponents_pay}
 use Rattle.links.specs.Pays.{connections_pay}
 use Rattle.declarations.specs.Sections.{list_kind, listed, list_in, properties_of, section, begins, sections}
-use Rattle.declarations.specs.Declarations.{type_name, parent_in, type_end, thread_type}
-use Rattle.declarations.specs.Declarations.{first_name, second_name, implementation_end, implementation}
+use Rattle.declarations.specs.Declarations.{type_name, parent_in, type_end, thread_type, first_name, second_name, implementation_end, implementation}
 use Rattle.declarations.specs.Declarations.{thread_implementation, process_implementation}
 use Rattle.declarations.specs.Laws.{type_head_moves, type_end_moves, implementation_head_moves, implementation_end_moves}
 

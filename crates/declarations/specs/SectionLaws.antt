@@ -1,7 +1,6 @@
 -- Laws of sections: which one begins, what the code does in it, and how far it goes.
 use Rattle.std.specs.Prelude.{◌≡◌}
-use Rattle.common.specs.Words.{ℕ, suc, arith, Bool, true, false, true≢false, cond, List, refl, sym}
-use Rattle.common.specs.Words.{ap, ◌∙◌, eqb, eq-eqb, ne_eqb, eqb-true}
+use Rattle.common.specs.Words.{ℕ, suc, arith, Bool, true, false, true≢false, cond, List, refl, sym, ap, ◌∙◌, eqb, eq-eqb, ne_eqb, eqb-true}
 use Rattle.words.specs.Kinds.{ENDED, FEATURES, SUBCOMPONENTS, CONNECTIONS, PROPERTIES, MODES}
 use Rattle.tokens.specs.Tokens.{Token}
 use Rattle.tokens.specs.Laws.{cases}

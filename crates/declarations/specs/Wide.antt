@@ -12,9 +12,8 @@ use Rattle.features.specs.Wide.{features_wide}
 use Rattle.threads.specs.Wide.{subcomponents_wide}
 use Rattle.links.specs.Wide.{connections_wide}
 use Rattle.declarations.specs.Sections.{list_kind, listed, list_in, properties_of, section, begins, sections}
-use Rattle.declarations.specs.Declarations.{type_name, parent_in, type_head, type_end, thread_type}
-use Rattle.declarations.specs.Declarations.{first_name, second_name, implementation_head, implementation_end, implementation}
-use Rattle.declarations.specs.Declarations.{thread_implementation, process_implementation}
+use Rattle.declarations.specs.Declarations.{type_name, parent_in, type_head, type_end, thread_type, first_name, second_name, implementation_head}
+use Rattle.declarations.specs.Declarations.{implementation_end, implementation, thread_implementation, process_implementation}
 
 listed_wide : (word place : ℕ) → WideOn (listed word place)
 unfolding listed

@@ -8,8 +8,8 @@ ghost use Rattle.steps.specs.Steps.{◌⟫◌, head};
 ghost use Rattle.steps.specs.Lifted.{lift};
 ghost use Rattle.rows.specs.States.{state_of, does};
 ghost use Rattle.declarations.specs.Sections.{list_kind, allowed, listed, list_in, properties_of, section, sections};
-ghost use Rattle.declarations.specs.Declarations.{maybe_extends, type_end, thread_type, implementation_end, implementation};
-ghost use Rattle.declarations.specs.Declarations.{thread_implementation, process_implementation};
+ghost use Rattle.declarations.specs.Declarations.{maybe_extends, type_end, thread_type, implementation_end, implementation, thread_implementation};
+ghost use Rattle.declarations.specs.Declarations.{process_implementation};
 
 use features::features;
 use links::connections;

@@ -1,8 +1,7 @@
 -- The console's desk, line by line: what a line does to the desk and to the lent memory, and the line that answers it. A line is any
 -- list of bytes. Everything below is document 01's paragraph "The console".
 use Rattle.std.specs.Prelude.{◌+◌, ◌/◌, ◌%◌, ◌^◌, ◌≡◌}
-use Rattle.common.specs.Words.{ℕ, Bool, true, false, cond, List, [], leb, eqb, length, get_or, set}
-use Rattle.common.specs.Words.{replicate, sets}
+use Rattle.common.specs.Words.{ℕ, Bool, true, false, cond, List, [], leb, eqb, length, get_or, set, replicate, sets}
 use Rattle.common.specs.Table.{table}
 use Rattle.plan.specs.Limits.{task_limit, queue_limit}
 use Rattle.plan.specs.Plan.{zeros}

@@ -1,8 +1,7 @@
 -- "The program reads lines of lower-case hexadecimal": which lines hold bytes, the bytes that they hold, and bytes as digits.
 -- A line is any list of bytes, without its line feed.
 use Rattle.std.specs.Prelude.{◌+◌, ◌-◌, ◌*◌, ◌/◌, ◌%◌, ◌&&◌, ◌∷◌}
-use Rattle.common.specs.Words.{ℕ, Bool, cond, List, [], leb, ltb, eqb, length}
-use Rattle.common.specs.Words.{get_or, sets}
+use Rattle.common.specs.Words.{ℕ, Bool, cond, List, [], leb, ltb, eqb, length, get_or, sets}
 use Rattle.common.proofs.Rows.{every}
 use Rattle.common.specs.Table.{table}
 use Rattle.digits.specs.declared.hex.Decoded.{Decoded}

@@ -1,13 +1,8 @@
 -- Laws of digits: a line of whole pairs, the buffer after decoding, and how many digits bytes take.
-use Rattle.std.specs.Prelude.{bit_or}
-use Rattle.std.specs.Prelude.{◌+◌, ◌*◌, ◌/◌, ◌%◌, ◌^◌, ◌<◌, ◌≤◌}
-use Rattle.common.specs.Words.{ℕ, zero, suc, arith, add-one, Bool, true, false}
-use Rattle.std.specs.Prelude.{◌&&◌}
-use Rattle.common.specs.Words.{cond}
-use Rattle.std.specs.Prelude.{◌∷◌, ◌++◌, ◌⊎◌, ◌≡◌}
-use Rattle.common.specs.Words.{List, [], inl, inr, refl, sym, ap, subst, ◌∙◌, leb, ltb, length}
-use Rattle.common.specs.Words.{get_or, take, set, sets}
-use Rattle.common.specs.Words.{length-sets, length-take-le, take-suc, lt-ltb, le-ltb, le-leb, lt-leb, eq-eqb, ne_eqb}
+use Rattle.std.specs.Prelude.{bit_or, ◌+◌, ◌*◌, ◌/◌, ◌%◌, ◌^◌, ◌<◌, ◌≤◌, ◌&&◌, ◌∷◌, ◌++◌, ◌⊎◌}
+use Rattle.std.specs.Prelude.{◌≡◌}
+use Rattle.common.specs.Words.{ℕ, zero, suc, arith, add-one, Bool, true, false, cond, List, [], inl, inr, refl, sym, ap, subst, ◌∙◌, leb, ltb}
+use Rattle.common.specs.Words.{length, get_or, take, set, sets, length-sets, length-take-le, take-suc, lt-ltb, le-ltb, le-leb, lt-leb, eq-eqb, ne_eqb}
 use Rattle.common.specs.Words.{ltb-true, leb-true, eqb-true}
 use Rattle.std.proofs.lemmas.Nat.{or_lt, and_le_l, and_le_r}
 use Rattle.std.specs.Int.Bits.{or_add_and}

@@ -1,11 +1,7 @@
 -- Laws of numbers in bytes, over their width: what a loop adds in one turn, bounds, and that what was written is read back.
-use Rattle.std.specs.Prelude.{◌+◌, ◌-◌, ◌*◌, ◌/◌, ◌%◌, ◌^◌, ◌<◌, ◌≤◌}
-use Rattle.common.specs.Words.{ℕ, zero, suc, arith, add-one, div-add-mod'}
-use Rattle.common.specs.Words.{div-lt_iff_lt-mul, pow-suc}
-use Rattle.std.specs.Prelude.{◌∷◌, ◌++◌, ◌≡◌}
-use Rattle.common.specs.Words.{pow-le-pow_right, List, [], refl, sym, ap, ◌∙◌, length, get_or, set}
-use Rattle.common.specs.Words.{length-append}
-use Rattle.common.specs.Words.{get_or-append, sets, set_comm, get_or_at}
+use Rattle.std.specs.Prelude.{◌+◌, ◌-◌, ◌*◌, ◌/◌, ◌%◌, ◌^◌, ◌<◌, ◌≤◌, ◌∷◌, ◌++◌, ◌≡◌}
+use Rattle.common.specs.Words.{ℕ, zero, suc, arith, add-one, div-add-mod', div-lt_iff_lt-mul, pow-suc, pow-le-pow_right, List, [], refl, sym, ap}
+use Rattle.common.specs.Words.{◌∙◌, length, get_or, set, length-append, get_or-append, sets, set_comm, get_or_at}
 use Rattle.common.specs.Stores.{sets_append}
 use Rattle.digits.specs.Hex.{digits}
 use Rattle.digits.specs.HexLaws.{digits_append, digits_length}

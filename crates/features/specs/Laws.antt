@@ -11,8 +11,8 @@ use Rattle.phrases.specs.Laws.{direction_moves, port_kind_moves, maybe_classifie
 use Rattle.rows.specs.Rows.{port_row}
 use Rattle.rows.specs.Said.{Said, quiet, ◌⨟◌, put, apart}
 use Rattle.rows.specs.States.{State, does}
-use Rattle.rows.specs.Laws.{MovesOn, moved_onward, moves_quiet, moves_put, moves_apart, moves_repeat, advances_on, does_then}
-use Rattle.rows.specs.Laws.{does_then_at, does_on, does_off}
+use Rattle.rows.specs.Laws.{MovesOn, moved_onward, moves_quiet, moves_put, moves_apart, moves_repeat, advances_on, does_then, does_then_at, does_on}
+use Rattle.rows.specs.Laws.{does_off}
 use Rattle.properties.specs.Properties.{of_port, maybe_block_in}
 use Rattle.properties.specs.Laws.{maybe_block_moves}
 use Rattle.features.specs.Features.{direction_of, port_head, port, other_feature, feature_of, feature, features}

@@ -1,10 +1,6 @@
 -- Feeding line by line, as the code goes; and what feeding means: the lines of the part that was used are answered one after another.
-use Rattle.std.specs.Prelude.{◌+◌, ◌-◌, ◌<◌, ◌≤◌, ◌∷◌, ◌++◌}
-use Rattle.common.specs.Words.{ℕ, suc, arith, Bool, true, false, List, [], append_assoc}
-use Rattle.std.specs.Prelude.{◌≡◌}
-use Rattle.common.specs.Words.{append-nil}
-use Rattle.common.specs.Words.{refl, ap}
-use Rattle.common.specs.Words.{◌∙◌, eqb, length, take, drop}
+use Rattle.std.specs.Prelude.{◌+◌, ◌-◌, ◌<◌, ◌≤◌, ◌∷◌, ◌++◌, ◌≡◌}
+use Rattle.common.specs.Words.{ℕ, suc, arith, Bool, true, false, List, [], append_assoc, append-nil, refl, ap, ◌∙◌, eqb, length, take, drop}
 use Rattle.lines.specs.Lines.{line_feed, cut}
 use Rattle.lines.specs.Whole.{cut_short, cut_length}
 use Rattle.lines.specs.Ends.{run, carry_more}

@@ -1,11 +1,8 @@
 -- What feeding means: the lines of the text that was used are answered one after another, in whatever blocks the text came and however
 -- often the room for answers ran short.
-use Rattle.std.specs.Prelude.{◌+◌, ◌-◌, ◌<◌, ◌≤◌, ◌∷◌, ◌++◌}
-use Rattle.common.specs.Words.{ℕ, suc, arith, Bool, true, false, List, [], map}
-use Rattle.std.specs.Prelude.{◌≡◌}
-use Rattle.common.specs.Words.{append-nil, refl, sym}
-use Rattle.common.specs.Words.{cond, ap, ◌∙◌}
-use Rattle.common.specs.Words.{eqb, ltb, length, take, drop, length-append, length-drop, le-ltb, ltb-true}
+use Rattle.std.specs.Prelude.{◌+◌, ◌-◌, ◌<◌, ◌≤◌, ◌∷◌, ◌++◌, ◌≡◌}
+use Rattle.common.specs.Words.{ℕ, suc, arith, Bool, true, false, List, [], map, append-nil, refl, sym, cond, ap, ◌∙◌, eqb, ltb, length, take}
+use Rattle.common.specs.Words.{drop, length-append, length-drop, le-ltb, ltb-true}
 use Rattle.desk.specs.Desk.{Turn}
 use Rattle.lines.specs.Lines.{line_feed, cut, fed, ended}
 use Rattle.lines.specs.Blocks.{fed_append}

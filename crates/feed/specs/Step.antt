@@ -1,8 +1,7 @@
 -- Lines that are cut, and a part of the output buffer: what is written at its start stands in the whole at its place.
 use Rattle.std.specs.Prelude.{◌+◌, ◌-◌, ◌≤◌, ◌++◌, ◌≡◌}
-use Rattle.common.specs.Words.{ℕ, arith, List, append_assoc, append-nil, ap, length, take, drop}
-use Rattle.common.specs.Words.{length-drop}
-use Rattle.common.specs.Words.{drop_of_length-le, sets, sets-eq, take_all, drop-drop}
+use Rattle.common.specs.Words.{ℕ, arith, List, append_assoc, append-nil, ap, length, take, drop, length-drop, drop_of_length-le, sets, sets-eq}
+use Rattle.common.specs.Words.{take_all, drop-drop}
 use borrow.Rule.Slice.PartMut.{mid_of, put_mid}
 use Rattle.desk.specs.declared.Desk.{Desk}
 use Rattle.desk.specs.Desk.{line_turn}

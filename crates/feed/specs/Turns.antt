@@ -1,10 +1,7 @@
 -- The turns of the code's loop: what is done, and what is left to be done, make the whole.
 use Rattle.std.specs.Prelude.{◌+◌, ◌-◌, ◌<◌, ◌≤◌, ◌++◌, ◌≡◌}
-use Rattle.common.specs.Words.{ℕ, suc, arith, zero-add, List, [], append-nil, refl, sym}
-use Rattle.common.specs.Words.{ap, ◌∙◌, length}
-use Rattle.common.specs.Words.{take, drop}
-use Rattle.common.specs.Words.{length-take, length-drop, length-append, sets, length-sets, sets-eq, length-take-le, take_at, drop-drop, lt-ltb}
-use Rattle.common.specs.Words.{le-ltb}
+use Rattle.common.specs.Words.{ℕ, suc, arith, zero-add, List, [], append-nil, refl, sym, ap, ◌∙◌, length, take, drop, length-take}
+use Rattle.common.specs.Words.{length-drop, length-append, sets, length-sets, sets-eq, length-take-le, take_at, drop-drop, lt-ltb, le-ltb}
 use borrow.Rule.Slice.PartMut.{mid_of, put_mid}
 use Rattle.common.specs.Stores.{part, sets_append}
 use Rattle.desk.specs.declared.Desk.{Desk}

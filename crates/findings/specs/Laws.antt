@@ -1,7 +1,6 @@
 -- Laws of document 02's numbers.
 use Rattle.std.specs.Prelude.{◌<◌, ◌≡◌}
-use Rattle.common.specs.Words.{ℕ, min, max, arith, Bool, true, false, cond, refl, eqb, eqb-true, eqb-false, leb, leb-true}
-use Rattle.common.specs.Words.{leb-false}
+use Rattle.common.specs.Words.{ℕ, min, max, arith, Bool, true, false, cond, refl, eqb, eqb-true, eqb-false, leb, leb-true, leb-false}
 use Rattle.findings.specs.declared.Rule.TheVariants.{Unfit, Unknown, NoTime, TooDeep, Twice}
 use Rattle.findings.specs.Findings.{number_of, rule_of}
 

@@ -1,8 +1,6 @@
 -- Writing a line piece by piece: digits behind digits are the digits of all the bytes, and the line feed ends them.
 use Rattle.std.specs.Prelude.{◌+◌, ◌*◌, ◌∷◌, ◌++◌, ◌≡◌}
-use Rattle.common.specs.Words.{ℕ, zero, suc, arith, add-one, List, [], append_assoc, refl}
-use Rattle.common.specs.Words.{◌∙◌, length, get_or}
-use Rattle.common.specs.Words.{length-append, sets}
+use Rattle.common.specs.Words.{ℕ, zero, suc, arith, add-one, List, [], append_assoc, refl, ◌∙◌, length, get_or, length-append, sets}
 use Rattle.common.specs.Stores.{sets_append}
 use Rattle.digits.specs.Hex.{digits}
 use Rattle.digits.specs.HexLaws.{digits_append, digits_length}

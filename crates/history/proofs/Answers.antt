@@ -1,10 +1,7 @@
 -- A receive, by its answer: what each of the four kinds says of the state and the memory before it.
-use Rattle.std.specs.Prelude.{◌+◌, ◌/◌, ◌≤◌, ◌<◌, ◌⊎◌}
-use Rattle.common.specs.Words.{ℕ, zero, suc, arith, div-mul-le_self, Bool, true, false, List, inl}
-use Rattle.std.specs.Prelude.{◌≡◌}
-use Rattle.common.specs.Words.{inr, refl}
-use Rattle.common.specs.Words.{sym}
-use Rattle.common.specs.Words.{subst, ◌∙◌, eqb, length, eqb-true, eqb-false, eq-eqb, le-leb}
+use Rattle.std.specs.Prelude.{◌+◌, ◌/◌, ◌≤◌, ◌<◌, ◌⊎◌, ◌≡◌}
+use Rattle.common.specs.Words.{ℕ, zero, suc, arith, div-mul-le_self, Bool, true, false, List, inl, inr, refl, sym, subst, ◌∙◌, eqb, length}
+use Rattle.common.specs.Words.{eqb-true, eqb-false, eq-eqb, le-leb}
 use Rattle.common.specs.Tests.{lt_or_le}
 use Rattle.calendar.specs.Calendar.{message, slot}
 use Rattle.model.specs.Model.{Valid, Sender, receiver_period, deadline_of, number, first, last, sender_of}

@@ -6,8 +6,7 @@ use Rattle.common.specs.Totals.{sum, most}
 use Rattle.common.proofs.Rows.{every, some, first_bad}
 use Rattle.calendar.specs.Calendar.{message, slot}
 use Rattle.model.specs.Model.{count, has_deadline, precedes, up_to, due_at, followers, number, wanted_for, horizon, outdated, euclid, gcd, lcm}
-use Rattle.model.specs.Model.{multiple}
-use Rattle.model.specs.Model.{hyperperiod, need, row_slots, slots_over, slots, last, sender_of}
+use Rattle.model.specs.Model.{multiple, hyperperiod, need, row_slots, slots_over, slots, last, sender_of}
 use Rattle.model.proofs.WayBack.{way_back}
 use Rattle.plan.specs.Rules.{one_to, counts_good, task_good, only_tasks_send, queue_good, place_good, places_good, checked_plan, sound_plan}
 use Rattle.plan.specs.Limits.{last_tick}
@@ -18,8 +17,8 @@ use Rattle.running.specs.Calls as running
 use Rattle.running.specs.View.{view_of}
 use Rattle.mailbox.specs.Calls.{start_memory, send_state, receive_state, found}
 use Rattle.history.specs.Types.{Plan, Sent, Received}
-use Rattle.history.specs.History.{History, start, ◌then◌, send, receive, same, Begins, after, world, send_says, receive_says, accepted_as}
-use Rattle.history.specs.History.{SentIn, Reading, read_by, window_numbers, Among, ReadToEnd}
+use Rattle.history.specs.History.{History, start, ◌then◌, send, receive, same, Begins, after, world, send_says, receive_says, accepted_as, SentIn}
+use Rattle.history.specs.History.{Reading, read_by, window_numbers, Among, ReadToEnd}
 use Rattle.history.proofs.Ground.{valid_at}
 use Rattle.history.proofs.Made.{blank, blank_begins}
 use Rattle.planning.specs.AcceptedPlan.{Made}

@@ -1,10 +1,7 @@
 -- What the proofs need of a plan: that its queues are valid and their slots lie side by side, that each size is fit, and what follows
 -- for slots, cells of the state and numbers. It leans on the model's laws; a plan that planning makes is such a plan (`made_fits`).
-use Rattle.std.specs.Prelude.{◌+◌, ◌-◌, ◌*◌, ◌/◌, ◌%◌, ◌≤◌, ◌<◌, ◌^◌}
-use Rattle.common.specs.Words.{ℕ, suc, arith, mod-lt, mul-le-mul_right}
-use Rattle.common.specs.Words.{div-add-mod', div-lt_iff_lt-mul}
-use Rattle.std.specs.Prelude.{◌≡◌}
-use Rattle.common.specs.Words.{lt-div-mul-add, ⊎_elim}
+use Rattle.std.specs.Prelude.{◌+◌, ◌-◌, ◌*◌, ◌/◌, ◌%◌, ◌≤◌, ◌<◌, ◌^◌, ◌≡◌}
+use Rattle.common.specs.Words.{ℕ, suc, arith, mod-lt, mul-le-mul_right, div-add-mod', div-lt_iff_lt-mul, lt-div-mul-add, ⊎_elim}
 use Rattle.common.specs.Tests.{lt_or_le}
 use Rattle.model.specs.Model.{Queue, Valid, Sender, release_of, deadline_of, number}
 use Rattle.model.specs.Source.{Fit, outdated_at}

@@ -1,10 +1,7 @@
 -- After every history the invariant holds of every queue: from the start, which clears the slots, over each call.
-use Rattle.std.specs.Prelude.{◌*◌, ◌≤◌, ◌<◌, ◌⊎◌}
-use Rattle.common.specs.Words.{ℕ, arith, le_refl, ℕ_discrete, Bool, true, false, true≢false, List, inl}
-use Rattle.std.specs.Prelude.{◌≡◌}
-use Rattle.common.specs.Words.{inr}
-use Rattle.common.specs.Words.{refl, sym, ap}
-use Rattle.common.specs.Words.{subst, ◌∙◌, length, drop, length-replicate, ltb-false, not-false}
+use Rattle.std.specs.Prelude.{◌*◌, ◌≤◌, ◌<◌, ◌⊎◌, ◌≡◌}
+use Rattle.common.specs.Words.{ℕ, arith, le_refl, ℕ_discrete, Bool, true, false, true≢false, List, inl, inr, refl, sym, ap, subst, ◌∙◌}
+use Rattle.common.specs.Words.{length, drop, length-replicate, ltb-false, not-false}
 use Rattle.plan.specs.Limits.{queue_limit, cell_limit, payload_bytes, slot_bytes}
 use Rattle.plan.specs.Plan.{slots_of}
 use Rattle.plan.specs.Rules.{sound_plan}

@@ -1,11 +1,8 @@
 -- What holds of each queue after every history: whatever was sent has in its slot itself or a higher number, and what a slot holds was sent.
 -- It leans on the view of one call (Steps), on the laws of slots, and on fit sizes.
-use Rattle.std.specs.Prelude.{◌+◌, ◌*◌, ◌%◌, ◌≤◌, ◌<◌, ◌⊎◌}
-use Rattle.common.specs.Words.{ℕ, arith, le_refl, div-mul-le_self, ℕ_discrete, List}
-use Rattle.common.specs.Words.{inl, inr, ⊎_elim}
-use Rattle.std.specs.Prelude.{◌≡◌}
-use Rattle.common.specs.Words.{refl, sym}
-use Rattle.common.specs.Words.{ap, subst, ◌∙◌, length, get_or, length-set, get_or-set_same, get_or-set_other}
+use Rattle.std.specs.Prelude.{◌+◌, ◌*◌, ◌%◌, ◌≤◌, ◌<◌, ◌⊎◌, ◌≡◌}
+use Rattle.common.specs.Words.{ℕ, arith, le_refl, div-mul-le_self, ℕ_discrete, List, inl, inr, ⊎_elim, refl, sym, ap, subst, ◌∙◌, length}
+use Rattle.common.specs.Words.{get_or, length-set, get_or-set_same, get_or-set_other}
 use Rattle.common.specs.Tests.{lt_or_le, having}
 use Rattle.model.specs.Model.{Queue, Valid, Sender, release_of, deadline_of, number}
 use Rattle.model.specs.Source.{Fit, outdated_at}

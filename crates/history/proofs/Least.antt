@@ -1,13 +1,9 @@
 -- No smaller size does: where a message's slot is asked for again before it is outdated, a history of accepted calls loses the message.
 -- The message is sent, then the one that takes its slot, and then its receiving job reads up to it.
-use Rattle.std.specs.Prelude.{◌+◌, ◌-◌, ◌*◌, ◌%◌, ◌≤◌, ◌<◌}
-use Rattle.common.specs.Words.{ℕ, zero, suc, max, arith, le_refl, add-mod_right}
-use Rattle.common.specs.Words.{div-eq_of_lt-le, div-mul-le_self}
-use Rattle.std.specs.Prelude.{◌≡◌}
-use Rattle.common.specs.Words.{mul-le-mul_right, ℕ_discrete, List, inl, inr, ⊎_elim, refl, sym, ap, subst, ◌∙◌, length, get_or}
-use Rattle.common.specs.Words.{set}
-use Rattle.common.specs.Words.{replicate}
-use Rattle.common.specs.Words.{length-replicate, get_or-replicate, get_or-set_same, get_or-set_other, ne_eqb}
+use Rattle.std.specs.Prelude.{◌+◌, ◌-◌, ◌*◌, ◌%◌, ◌≤◌, ◌<◌, ◌≡◌}
+use Rattle.common.specs.Words.{ℕ, zero, suc, max, arith, le_refl, add-mod_right, div-eq_of_lt-le, div-mul-le_self, mul-le-mul_right, ℕ_discrete}
+use Rattle.common.specs.Words.{List, inl, inr, ⊎_elim, refl, sym, ap, subst, ◌∙◌, length, get_or, set, replicate, length-replicate}
+use Rattle.common.specs.Words.{get_or-replicate, get_or-set_same, get_or-set_other, ne_eqb}
 use Rattle.common.specs.Tests.{lt_or_le, having}
 use Rattle.calendar.specs.Calendar.{message}
 use Rattle.model.specs.Model.{Queue, Valid, Sender, receiver_period, release_of, deadline_of, number, first, last, wanted_until, sender_of}
@@ -24,8 +20,8 @@ use Rattle.plan.specs.Sound.{Sound}
 use Rattle.history.specs.Types.{Plan, Received}
 use Rattle.slots.specs.Slots.{number_in}
 use Rattle.mailbox.specs.Calls.{found, slot_for, running_job, receiving_job}
-use Rattle.history.specs.History.{send, receive, World, History, start, ◌then◌, Begins, world, after, receive_says, Sends}
-use Rattle.history.specs.History.{accepted_as, SentIn, Tells, stores, tells, AllAccepted}
+use Rattle.history.specs.History.{send, receive, World, History, start, ◌then◌, Begins, world, after, receive_says, Sends, accepted_as, SentIn}
+use Rattle.history.specs.History.{Tells, stores, tells, AllAccepted}
 use Rattle.history.proofs.Steps.{CanSend, CanReceive, number_at, sent_world, next, last_at, read_world, send_stores, receive_finds, after_send}
 use Rattle.history.proofs.Steps.{after_finds, found_tells}
 use Rattle.history.proofs.Ground.{valid_at}

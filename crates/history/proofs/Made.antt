@@ -1,7 +1,6 @@
 -- What the theorems ask of a plan is that planning made it (`Made` of planning). Here is what the proofs take from that.
 use Rattle.std.specs.Prelude.{◌*◌, ◌≤◌, ◌<◌, ◌≡◌}
-use Rattle.common.specs.Words.{ℕ, arith, true, List, sym, subst, length, replicate, length-replicate}
-use Rattle.common.specs.Words.{le-ltb}
+use Rattle.common.specs.Words.{ℕ, arith, true, List, sym, subst, length, replicate, length-replicate, le-ltb}
 use Rattle.model.proofs.Slots.{slots_fit}
 use Rattle.plan.specs.Limits.{payload_bytes, slot_bytes}
 use Rattle.plan.specs.Plan.{queue_at, size_at, slots_of}

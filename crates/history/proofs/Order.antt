@@ -1,13 +1,9 @@
 -- What each receiving job has read after every history: the first numbers of its window, one after the other.
 -- It leans on the view of one call and on the laws of windows; fit sizes play no part.
-use Rattle.std.specs.Prelude.{◌+◌, ◌-◌, ◌/◌, ◌≤◌, ◌<◌}
-use Rattle.common.specs.Words.{ℕ, zero, suc, max, arith, le_refl, zero-add, add-zero, suc-add}
-use Rattle.common.specs.Words.{add-suc, ℕ_discrete}
-use Rattle.common.specs.Words.{Bool}
-use Rattle.std.specs.Prelude.{◌&&◌, ◌∷◌, ◌++◌, ◌≡◌}
-use Rattle.common.specs.Words.{true, false, cond, List, [], append-nil, refl, sym, ap, subst, ◌∙◌}
-use Rattle.common.specs.Words.{eqb, length, get_or}
-use Rattle.common.specs.Words.{length-append, get_or-replicate, get_or-set_same, get_or-set_other, eq-eqb, ne_eqb}
+use Rattle.std.specs.Prelude.{◌+◌, ◌-◌, ◌/◌, ◌≤◌, ◌<◌, ◌&&◌, ◌∷◌, ◌++◌, ◌≡◌}
+use Rattle.common.specs.Words.{ℕ, zero, suc, max, arith, le_refl, zero-add, add-zero, suc-add, add-suc, ℕ_discrete, Bool, true, false, cond, List}
+use Rattle.common.specs.Words.{[], append-nil, refl, sym, ap, subst, ◌∙◌, eqb, length, get_or, length-append, get_or-replicate, get_or-set_same}
+use Rattle.common.specs.Words.{get_or-set_other, eq-eqb, ne_eqb}
 use Rattle.calendar.specs.Calendar.{message, slot}
 use Rattle.model.specs.Model.{Valid, receiver_period, first, last, sender_of}
 use Rattle.model.proofs.Order.{period_pos}
@@ -17,8 +13,8 @@ use Rattle.plan.specs.Plan.{queue_at}
 use Rattle.history.specs.Types.{Plan, Received}
 use Rattle.slots.specs.Slots.{number_in}
 use Rattle.mailbox.specs.Calls.{found, slot_for, receiving_job}
-use Rattle.history.specs.History.{Call, receive, World, History, start, ◌then◌, Begins, world, receive_says, Reading, readings, reads}
-use Rattle.history.specs.History.{read_by, numbers, up_from}
+use Rattle.history.specs.History.{Call, receive, World, History, start, ◌then◌, Begins, world, receive_says, Reading, readings, reads, read_by}
+use Rattle.history.specs.History.{numbers, up_from}
 use Rattle.history.proofs.Steps.{CanReceive, next, last_at, read_world, receive_finds, receive_ends, Step, sends, finds, ends, stays, step}
 use Rattle.history.proofs.Ground.{div_mono}
 use Rattle.history.proofs.Invariant.{Shape}

@@ -1,11 +1,7 @@
 -- What a receive's answer says of the calls before it and after it. `Theorems` states what comes of it.
-use Rattle.std.specs.Prelude.{◌+◌, ◌-◌, ◌*◌, ◌/◌, ◌≤◌, ◌<◌}
-use Rattle.common.specs.Words.{ℕ, suc, arith, le_refl, div-mul-le_self, ℕ_discrete, List}
-use Rattle.std.specs.Prelude.{◌++◌}
-use Rattle.common.specs.Words.{inl, inr}
-use Rattle.std.specs.Prelude.{◌≡◌}
-use Rattle.common.specs.Words.{refl}
-use Rattle.common.specs.Words.{sym, ap, subst, ◌∙◌, length, get_or, set, get_or-set_same, get_or-set_other}
+use Rattle.std.specs.Prelude.{◌+◌, ◌-◌, ◌*◌, ◌/◌, ◌≤◌, ◌<◌, ◌++◌, ◌≡◌}
+use Rattle.common.specs.Words.{ℕ, suc, arith, le_refl, div-mul-le_self, ℕ_discrete, List, inl, inr, refl, sym, ap, subst, ◌∙◌, length}
+use Rattle.common.specs.Words.{get_or, set, get_or-set_same, get_or-set_other}
 use Rattle.std.proofs.Math.Arith.{lt_of_le-ne}
 use Rattle.common.specs.Tests.{having}
 use Rattle.calendar.specs.Calendar.{message}
@@ -20,15 +16,15 @@ use Rattle.plan.specs.Sound.{Sound}
 use Rattle.mailbox.specs.Calls.{running_job, receiving_job}
 use Rattle.running.specs.View.{view_of}
 use Rattle.history.specs.History.{Call, send, receive, World, send_says, History, start, ◌then◌, ◌⊑◌, same, more, Begins, world}
-use Rattle.history.specs.History.{receive_says}
-use Rattle.history.specs.History.{Sends, accepted_as, SentIn, Tells, of_gap, AcceptedCall, tells, empty, read_by, numbers, up_from, window_numbers}
+use Rattle.history.specs.History.{receive_says, Sends, accepted_as, SentIn, Tells, of_gap, AcceptedCall, tells, empty, read_by, numbers, up_from}
+use Rattle.history.specs.History.{window_numbers}
 use Rattle.history.proofs.Steps.{CanReceive, next, after_finds, receive_moves, Step, sends, finds, ends, stays, step}
 use Rattle.history.proofs.Ground.{valid_at, Fitting, slot_waits, div_mono}
 use Rattle.history.proofs.Invariant.{Shape, Inv, held, bytes, unsent, sent_is, tick_mono}
 use Rattle.history.proofs.Holds.{holds, shaped}
 use Rattle.history.proofs.Order.{Order, order, every_pos, up_append, length_up}
-use Rattle.history.proofs.Answers.{Answered, finding, missing, ended, answered, answered_so, Told, told, told_window, told_deadline}
-use Rattle.history.proofs.Answers.{told_outdated, shown, in_time}
+use Rattle.history.proofs.Answers.{Answered, finding, missing, ended, answered, answered_so, Told, told, told_window, told_deadline, told_outdated}
+use Rattle.history.proofs.Answers.{shown, in_time}
 
 -- ## A send is its job's
 

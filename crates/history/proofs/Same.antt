@@ -1,12 +1,8 @@
 -- What a job reads is settled by what was sent: a job that read to its end has read each number of its window once, a message exactly where
 -- one was sent, with its bytes. So two histories with the same sends give it the same readings.
-use Rattle.std.specs.Prelude.{◌+◌, ◌-◌, ◌≤◌, ◌<◌, ◌&&◌}
-use Rattle.common.specs.Words.{ℕ, zero, suc, arith, le_refl, ℕ_discrete, Bool, true, false, cond}
-use Rattle.std.specs.Prelude.{◌∷◌}
-use Rattle.common.specs.Words.{List, []}
-use Rattle.std.specs.Prelude.{◌++◌}
-use Rattle.std.specs.Prelude.{◌↔◌, ◌≡◌}
-use Rattle.common.specs.Words.{inl, inr, refl, sym, ap, subst, ◌∙◌, eqb, length, length-append, eqb-true, eq-eqb}
+use Rattle.std.specs.Prelude.{◌+◌, ◌-◌, ◌≤◌, ◌<◌, ◌&&◌, ◌∷◌, ◌++◌, ◌↔◌, ◌≡◌}
+use Rattle.common.specs.Words.{ℕ, zero, suc, arith, le_refl, ℕ_discrete, Bool, true, false, cond, List, [], inl, inr, refl, sym, ap, subst}
+use Rattle.common.specs.Words.{◌∙◌, eqb, length, length-append, eqb-true, eq-eqb}
 use Rattle.calendar.specs.Calendar.{message, slot}
 use Rattle.model.specs.Model.{Queue, first, last, sender_of}
 use Rattle.plan.specs.Limits.{last_tick, payload_bytes}
@@ -15,8 +11,7 @@ use Rattle.history.specs.Types.{Plan, Received}
 use Rattle.mailbox.specs.Calls.{slot_for, receiving_job}
 use Rattle.running.specs.View.{view_of}
 use Rattle.history.specs.History.{Call, send, receive, ask_number, ask_way_back, ask_window, ask_view, World, History, start, ◌then◌, ◌⊑◌}
-use Rattle.history.specs.History.{same}
-use Rattle.history.specs.History.{more, Begins, world, receive_says, SentIn, Reading, readings, reads, read_by, numbers, number_told, up_from}
+use Rattle.history.specs.History.{same, more, Begins, world, receive_says, SentIn, Reading, readings, reads, read_by, numbers, number_told, up_from}
 use Rattle.history.specs.History.{window_numbers, Fair, as_sent, nothing_sent, AllFair, Among, ReadToEnd}
 use Rattle.history.proofs.Steps.{next}
 use Rattle.history.proofs.Ground.{Fitting, valid_at}

@@ -1,15 +1,10 @@
 -- Where a size is below the least fit one, some message's slot is asked for again before that message is outdated; and such a pair lies
 -- within the first hyperperiods, so that its ticks are small. It leans on the model's `slots`, the greatest need of the second hyperperiod.
-use Rattle.std.specs.Prelude.{◌+◌, ◌-◌, ◌*◌, ◌/◌, ◌≤◌, ◌<◌}
-use Rattle.common.specs.Words.{ℕ, zero, suc, arith, lt_of_not-le, not-le_of_lt}
-use Rattle.common.specs.Words.{mul-le-mul_right, Bool, true}
-use Rattle.common.specs.Words.{false}
-use Rattle.std.specs.Prelude.{◌≡◌}
-use Rattle.common.specs.Words.{⊎_elim, refl}
+use Rattle.std.specs.Prelude.{◌+◌, ◌-◌, ◌*◌, ◌/◌, ◌≤◌, ◌<◌, ◌≡◌}
+use Rattle.common.specs.Words.{ℕ, zero, suc, arith, lt_of_not-le, not-le_of_lt, mul-le-mul_right, Bool, true, false, ⊎_elim, refl}
 use Rattle.common.specs.Tests.{lt_or_le, having}
 use Rattle.common.specs.Totals.{only, most}
-use Rattle.model.specs.Model.{Queue, Valid, Sender, receiver_period, release_of, deadline_of, number}
-use Rattle.model.specs.Model.{need, row_slots, slots_over, slots, hyperperiod}
+use Rattle.model.specs.Model.{Queue, Valid, Sender, receiver_period, release_of, deadline_of, number, need, row_slots, slots_over, slots, hyperperiod}
 use Rattle.model.specs.Source.{CommonMultiple, outdated_at}
 use Rattle.model.proofs.Order.{period_pos}
 use Rattle.model.proofs.Number.{number_onto}

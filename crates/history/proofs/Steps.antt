@@ -1,10 +1,8 @@
 -- One call, by what it comes to. Every later proof goes by this list of cases and never looks at the tests again.
 -- It leans on Verdicts: a call is accepted exactly when its lines pass.
-use Rattle.std.specs.Prelude.{◌≤◌, ◌<◌, ◌&&◌, ◌⊎◌}
-use Rattle.common.specs.Words.{ℕ, Bool, true, false, cond, true≢false, List, [], inl, inr, ⊎_elim}
-use Rattle.std.specs.Prelude.{◌≡◌}
-use Rattle.common.specs.Words.{refl}
-use Rattle.common.specs.Words.{sym, ap, subst, ◌∙◌, eqb, lt-ltb, le-ltb}
+use Rattle.std.specs.Prelude.{◌≤◌, ◌<◌, ◌&&◌, ◌⊎◌, ◌≡◌}
+use Rattle.common.specs.Words.{ℕ, Bool, true, false, cond, true≢false, List, [], inl, inr, ⊎_elim, refl, sym, ap, subst, ◌∙◌, eqb, lt-ltb}
+use Rattle.common.specs.Words.{le-ltb}
 use Rattle.common.specs.Tests.{lt_or_le}
 use Rattle.model.specs.Model.{last, sender_of}
 use Rattle.calendar.specs.Calendar.{message, slot}
@@ -14,8 +12,8 @@ use Rattle.plan.specs.Limits.{last_tick, payload_bytes}
 use Rattle.plan.specs.Plan.{queue_at}
 use Rattle.slots.specs.Slots.{number_in, stored}
 use Rattle.running.specs.Calls as running
-use Rattle.mailbox.specs.Calls.{unsent_at, send_lines, receive_lines, send_answer, send_state, send_memory, look, found, receive_state}
-use Rattle.mailbox.specs.Calls.{stepped_on, running_number, receiving_job, next_number, slot_in, slot_for}
+use Rattle.mailbox.specs.Calls.{unsent_at, send_lines, receive_lines, send_answer, send_state, send_memory, look, found, receive_state, stepped_on}
+use Rattle.mailbox.specs.Calls.{running_number, receiving_job, next_number, slot_in, slot_for}
 use Rattle.mailbox.specs.Outcomes.{sent_state, read_past, moved_to, state_clear}
 use Rattle.mailbox.specs.Refused.{send_keeps}
 use Rattle.plan.specs.Verdicts.{Passed, Stopped, passed_good, passed_clear, stopped_refused, passed_or_stopped}

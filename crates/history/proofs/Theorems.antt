@@ -20,8 +20,7 @@ use Rattle.plan.specs.Plan.{queue_at, size_at, slots_of}
 use Rattle.mailbox.specs.Calls.{running_job, receiving_job, slot_for}
 use Rattle.running.specs.View.{view_of}
 use Rattle.history.specs.History.{Call, receive, World, History, start, ◌then◌, ◌⊑◌, Begins, world, after, send_says, receive_says, history}
-use Rattle.history.specs.History.{go_on}
-use Rattle.history.specs.History.{Sends, SentIn, Tells, read_by, numbers, window_numbers, AllFair, Among, ReadToEnd, AcceptedCall}
+use Rattle.history.specs.History.{go_on, Sends, SentIn, Tells, read_by, numbers, window_numbers, AllFair, Among, ReadToEnd, AcceptedCall}
 use Rattle.history.proofs.Made.{made_fits, loses_one}
 use Rattle.planning.specs.Planning.{Made}
 use Rattle.history.specs.Smaller.{resized, Lost}

@@ -1,8 +1,6 @@
 -- The first of a list's keys that is a key: what a dictionary answers.
 use Rattle.std.specs.Prelude.{◌+◌, ◌<◌, ◌≤◌, ◌∷◌, ◌++◌, ◌≡◌}
-use Rattle.common.specs.Words.{ℕ, zero, suc, arith, Bool, true, false, cond, List, []}
-use Rattle.common.specs.Words.{refl}
-use Rattle.common.specs.Words.{eqb, ne_eqb, length, get_or}
+use Rattle.common.specs.Words.{ℕ, zero, suc, arith, Bool, true, false, cond, List, [], refl, eqb, ne_eqb, length, get_or}
 use Rattle.keys.specs.Keys.{Meaning, same_meaning}
 use Rattle.keys.specs.Laws.{same_means, means_same}
 

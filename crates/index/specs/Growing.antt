@@ -1,13 +1,8 @@
 -- How a tree grows: with no key it is sound, and it stays so when a key is entered where the search for it ended.
-use Rattle.std.specs.Prelude.{◌+◌, ◌-◌, ◌*◌, ◌/◌, ◌%◌, ◌<◌, ◌≤◌}
-use Rattle.common.specs.Words.{ℕ, zero, suc, arith, add-one, Bool, true, false}
-use Rattle.common.specs.Words.{cond}
-use Rattle.std.specs.Prelude.{◌&&◌, ◌∷◌, ◌++◌, ◌≡◌}
-use Rattle.common.specs.Words.{List, [], refl, ap, ◌∙◌}
-use Rattle.common.specs.Words.{eqb, eq-eqb, ne_eqb, eqb-true, eqb-false, length, length-append, get_or, get_or-append, get_or_at}
-use Rattle.std.specs.Prelude.{◌⊎◌}
-use Rattle.common.specs.Words.{pos_of_ne-zero, inl, inr, ⊎_elim}
-use Rattle.common.specs.Words.{set, length-set, get_or-set_same, get_or-set_other}
+use Rattle.std.specs.Prelude.{◌+◌, ◌-◌, ◌*◌, ◌/◌, ◌%◌, ◌<◌, ◌≤◌, ◌&&◌, ◌∷◌, ◌++◌, ◌≡◌, ◌⊎◌}
+use Rattle.common.specs.Words.{ℕ, zero, suc, arith, add-one, Bool, true, false, cond, List, [], refl, ap, ◌∙◌, eqb, eq-eqb, ne_eqb, eqb-true}
+use Rattle.common.specs.Words.{eqb-false, length, length-append, get_or, get_or-append, get_or_at, pos_of_ne-zero, inl, inr, ⊎_elim, set}
+use Rattle.common.specs.Words.{length-set, get_or-set_same, get_or-set_other}
 use Rattle.common.specs.Tests.{lt_or_le, true_or_false}
 use Rattle.std.proofs.Math.Bool.{and-false}
 use Rattle.tokens.specs.Laws.{either}

@@ -1,7 +1,6 @@
 -- A dictionary over the rows that a text declares: for a key, the first row that has it. A row has a key in each of three roles.
 use Rattle.std.specs.Prelude.{◌+◌, ◌*◌, ◌^◌, ◌<◌, ◌≤◌, ◌∷◌}
-use Rattle.common.specs.Words.{ℕ, zero, suc, cond, List, [], map, eqb, length, take, drop}
-use Rattle.common.specs.Words.{get_or}
+use Rattle.common.specs.Words.{ℕ, zero, suc, cond, List, [], map, eqb, length, take, drop, get_or}
 use Rattle.common.specs.Stores.{part}
 use Rattle.rows.specs.Rows.{Row, row_words, a_process, an_implementation, a_link}
 use Rattle.keys.specs.declared.Key.{Key}

@@ -1,9 +1,7 @@
 -- Laws of rows in memory and of their keys, and how a dictionary grows row by row.
-use Rattle.std.specs.Prelude.{◌+◌, ◌-◌, ◌*◌, ◌/◌, ◌%◌, ◌<◌, ◌≤◌}
-use Rattle.common.specs.Words.{ℕ, zero, suc, arith, true, false, List}
-use Rattle.std.specs.Prelude.{◌∷◌, ◌++◌, ◌≡◌}
-use Rattle.common.specs.Words.{[], refl, sym, ap, ◌∙◌}
-use Rattle.common.specs.Words.{length, take, drop, drop-drop, get_or, get_or-take, get_or-drop, set, length-set, get_or-set_same, get_or-set_other}
+use Rattle.std.specs.Prelude.{◌+◌, ◌-◌, ◌*◌, ◌/◌, ◌%◌, ◌<◌, ◌≤◌, ◌∷◌, ◌++◌, ◌≡◌}
+use Rattle.common.specs.Words.{ℕ, zero, suc, arith, true, false, List, [], refl, sym, ap, ◌∙◌, length, take, drop, drop-drop, get_or}
+use Rattle.common.specs.Words.{get_or-take, get_or-drop, set, length-set, get_or-set_same, get_or-set_other}
 use Rattle.rows.specs.Rows.{Row, row_words}
 use Rattle.keys.specs.Keys.{Meaning, meant, same_meaning}
 use Rattle.index.specs.Found.{found, found_le, found_at, found_first}

@@ -1,10 +1,7 @@
 -- A tree over the bits of keys' hashes, in memory. Entry e is key number e, counted from 1; slots 2e and 2e + 1 hold its children, slot 0 the
 -- first entry of all, slot 1 nothing, and 0 says that a slot is free.
-use Rattle.std.specs.Prelude.{◌+◌, ◌-◌, ◌*◌, ◌/◌, ◌%◌, ◌<◌, ◌≤◌}
-use Rattle.common.specs.Words.{ℕ, zero, suc, arith, Bool, true, false}
-use Rattle.std.specs.Prelude.{◌≡◌}
-use Rattle.common.specs.Words.{cond, List, [], refl, sym, ◌∙◌}
-use Rattle.common.specs.Words.{eqb, ne_eqb, length, get_or, set}
+use Rattle.std.specs.Prelude.{◌+◌, ◌-◌, ◌*◌, ◌/◌, ◌%◌, ◌<◌, ◌≤◌, ◌≡◌}
+use Rattle.common.specs.Words.{ℕ, zero, suc, arith, Bool, true, false, cond, List, [], refl, sym, ◌∙◌, eqb, ne_eqb, length, get_or, set}
 use Rattle.keys.specs.Keys.{Meaning, meaning, same_meaning, hash_of}
 use Rattle.index.specs.Found.{found}
 

@@ -1,10 +1,7 @@
 -- What holds of a running call exactly when no line of the table refuses it, in plain facts.
-use Rattle.std.specs.Prelude.{◌+◌, ◌-◌, ◌*◌, ◌<◌, ◌≤◌, ◌||◌, ◌∷◌}
-use Rattle.common.specs.Words.{ℕ, arith, Bool, true, false, not, List}
-use Rattle.std.specs.Prelude.{◌≡◌}
-use Rattle.common.specs.Words.{refl, sym, ◌∙◌, ltb, eqb}
-use Rattle.common.specs.Words.{length}
-use Rattle.common.specs.Words.{get_or, ltb-true, ltb-false, leb-false, eqb-true, not-false, le-ltb, lt-ltb, lt-leb, eq-eqb}
+use Rattle.std.specs.Prelude.{◌+◌, ◌-◌, ◌*◌, ◌<◌, ◌≤◌, ◌||◌, ◌∷◌, ◌≡◌}
+use Rattle.common.specs.Words.{ℕ, arith, Bool, true, false, not, List, refl, sym, ◌∙◌, ltb, eqb, length, get_or, ltb-true, ltb-false}
+use Rattle.common.specs.Words.{leb-false, eqb-true, not-false, le-ltb, lt-ltb, lt-leb, eq-eqb}
 use Rattle.common.specs.Tests.{passed}
 use Rattle.common.specs.Totals.{sum_next}
 use Rattle.model.specs.Model.{Sender, receiver_period, wanted_for, wanted_until}

@@ -1,10 +1,7 @@
 -- Laws of keys: names are walked byte by byte, and keys that are found the same mean the same.
-use Rattle.std.specs.Prelude.{◌+◌, ◌*◌, ◌%◌, ◌<◌, ◌≤◌, ◌&&◌}
-use Rattle.common.specs.Words.{ℕ, zero, suc, arith, add-one, Bool, true, false, cond}
-use Rattle.std.specs.Prelude.{◌∷◌, ◌≡◌}
-use Rattle.common.specs.Words.{List, [], refl, sym, ap, ◌∙◌}
-use Rattle.common.specs.Words.{mod-lt, mul-le-mul, eqb, leb, eq-eqb, ne_eqb, eqb-true, length, get_or, drop-cons}
-use Rattle.common.specs.Words.{drop_of_length-le, get_or-eq_default, ⊎_elim}
+use Rattle.std.specs.Prelude.{◌+◌, ◌*◌, ◌%◌, ◌<◌, ◌≤◌, ◌&&◌, ◌∷◌, ◌≡◌}
+use Rattle.common.specs.Words.{ℕ, zero, suc, arith, add-one, Bool, true, false, cond, List, [], refl, sym, ap, ◌∙◌, mod-lt, mul-le-mul, eqb}
+use Rattle.common.specs.Words.{leb, eq-eqb, ne_eqb, eqb-true, length, get_or, drop-cons, drop_of_length-le, get_or-eq_default, ⊎_elim}
 use Rattle.common.specs.Tests.{and_left, and_right, lt_or_le}
 use Rattle.words.specs.Letters.{same, same_eq, same_refl}
 use Rattle.tokens.specs.Tokens.{sort_of, run, letter, digit}

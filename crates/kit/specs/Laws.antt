@@ -1,8 +1,7 @@
 -- Where a row stands among others: what a search from the front has left.
 use Rattle.std.specs.Prelude.{◌+◌, ◌-◌, ◌<◌, ◌≤◌, ◌≡◌}
-use Rattle.common.specs.Words.{ℕ, suc, arith, add-one, zero-add, pos_of_ne-zero, true, false, List}
-use Rattle.common.specs.Words.{refl, sym, ◌∙◌}
-use Rattle.common.specs.Words.{⊎_elim, eqb, eqb-true, eqb-false, eq-eqb, ne_eqb, length, get_or, drop, drop-cons, drop_of_length-le}
+use Rattle.common.specs.Words.{ℕ, suc, arith, add-one, zero-add, pos_of_ne-zero, true, false, List, refl, sym, ◌∙◌, ⊎_elim, eqb, eqb-true}
+use Rattle.common.specs.Words.{eqb-false, eq-eqb, ne_eqb, length, get_or, drop, drop-cons, drop_of_length-le}
 use Rattle.common.specs.Tests.{true_or_false}
 use Rattle.kit.specs.Kit.{position}
 

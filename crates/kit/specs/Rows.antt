@@ -1,13 +1,8 @@
 -- Promise 4: rows are the threads in text order, each with the Period, Deadline and Priority that section 4 finds; queues in order of first
 -- connection; a sender is in a queue exactly where a connection says so.
-use Rattle.std.specs.Prelude.{◌/◌, ◌%◌, ◌<◌, ◌≤◌}
-use Rattle.common.specs.Words.{ℕ, zero, suc, arith, Bool, true, false, true≢false, not, cond, List}
-use Rattle.std.specs.Prelude.{◌∷◌, ◌++◌}
-use Rattle.common.specs.Words.{[]}
-use Rattle.std.specs.Prelude.{◌≡◌, ◌⊎◌}
-use Rattle.common.specs.Words.{refl, sym, ap, ◌∙◌, inl, inr, ⊎_elim, eqb, eqb-true, ne_eqb, lt-ltb, length}
-use Rattle.common.specs.Words.{length-append, get_or}
-use Rattle.common.specs.Words.{get_or-append, get_or_at}
+use Rattle.std.specs.Prelude.{◌/◌, ◌%◌, ◌<◌, ◌≤◌, ◌∷◌, ◌++◌, ◌≡◌, ◌⊎◌}
+use Rattle.common.specs.Words.{ℕ, zero, suc, arith, Bool, true, false, true≢false, not, cond, List, [], refl, sym, ap, ◌∙◌, inl, inr}
+use Rattle.common.specs.Words.{⊎_elim, eqb, eqb-true, ne_eqb, lt-ltb, length, length-append, get_or, get_or-append, get_or_at}
 use Rattle.common.specs.Tests.{lt_or_le}
 use Rattle.common.specs.Table.{table, table_at}
 use Rattle.keys.specs.Keys.{Meaning, key, meant}

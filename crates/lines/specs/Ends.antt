@@ -1,12 +1,7 @@
 -- Where the next line of a block ends, and what feeding the block is in these terms.
-use Rattle.std.specs.Prelude.{◌+◌, ◌<◌, ◌≤◌}
-use Rattle.common.specs.Words.{ℕ, zero, suc, arith, add-one, Bool, true, false, cond, true≢false, List, []}
-use Rattle.std.specs.Prelude.{◌∷◌, ◌++◌}
-use Rattle.common.specs.Words.{append_assoc}
-use Rattle.std.specs.Prelude.{◌≡◌}
-use Rattle.common.specs.Words.{append-nil, refl, ap, ◌∙◌, eqb, length, take, drop, get_or, drop_of_length-le, drop-cons, eq-eqb}
-use Rattle.common.specs.Words.{ne_eqb}
-use Rattle.common.specs.Words.{eqb-false}
+use Rattle.std.specs.Prelude.{◌+◌, ◌<◌, ◌≤◌, ◌∷◌, ◌++◌, ◌≡◌}
+use Rattle.common.specs.Words.{ℕ, zero, suc, arith, add-one, Bool, true, false, cond, true≢false, List, [], append_assoc, append-nil, refl, ap}
+use Rattle.common.specs.Words.{◌∙◌, eqb, length, take, drop, get_or, drop_of_length-le, drop-cons, eq-eqb, ne_eqb, eqb-false}
 use Rattle.lines.specs.Lines.{line_feed, cut, lines_before, fed}
 use Rattle.lines.specs.Whole.{cut_append, cut_short, cut_length}
 

@@ -1,11 +1,9 @@
 -- The carry buffer: its first `used` bytes are the carry. What it holds after a part of a line was put behind the carry, and the line
 -- that the carry and that part make.
 use Rattle.std.specs.Prelude.{◌+◌, ◌-◌, ◌<◌, ◌≤◌, ◌++◌, ◌≡◌}
-use Rattle.common.specs.Words.{ℕ, min, arith, cond, List, ⊎_elim, sym, ap, ◌∙◌}
-use Rattle.common.specs.Words.{eqb, ltb, length, take}
-use Rattle.common.specs.Words.{drop}
-use Rattle.common.specs.Words.{length-append, length-take, take_all, take-take, take-length, length-take-le, sets, length-sets, sets-eq}
-use Rattle.common.specs.Words.{take-append-add, take_at, eq-eqb, ne_eqb, lt-ltb}
+use Rattle.common.specs.Words.{ℕ, min, arith, cond, List, ⊎_elim, sym, ap, ◌∙◌, eqb, ltb, length, take, drop, length-append, length-take}
+use Rattle.common.specs.Words.{take_all, take-take, take-length, length-take-le, sets, length-sets, sets-eq, take-append-add, take_at, eq-eqb, ne_eqb}
+use Rattle.common.specs.Words.{lt-ltb}
 use Rattle.std.specs.Borrow.{Bor}
 use Rattle.common.specs.Tests.{lt_or_le}
 use Rattle.common.specs.Stores.{part}

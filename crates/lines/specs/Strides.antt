@@ -1,8 +1,6 @@
 -- How far whole strides without a line feed are passed over: the laws of a loop that does it, and that the line still ends where it did.
 use Rattle.std.specs.Prelude.{◌+◌, ◌*◌, ◌<◌, ◌≤◌, ◌&&◌, ◌≡◌}
-use Rattle.common.specs.Words.{ℕ, zero, suc, arith, Bool, true, false, not, List}
-use Rattle.common.specs.Words.{◌∙◌, leb, length}
-use Rattle.common.specs.Words.{⊎_elim, le-leb, leb-true, not-true}
+use Rattle.common.specs.Words.{ℕ, zero, suc, arith, Bool, true, false, not, List, ◌∙◌, leb, length, ⊎_elim, le-leb, leb-true, not-true}
 use Rattle.common.specs.Tests.{lt_or_le, and_left, and_right}
 use Rattle.common.proofs.Rows.{first_bad, first_bad_none, first_bad_more, first_bad_found, first_bad_is}
 use Rattle.lines.specs.Ends.{stride, feed_in, end_of, end_passes}

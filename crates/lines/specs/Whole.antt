@@ -1,10 +1,7 @@
 -- The lines of a whole text are those that feeding gives: the text split at its line feeds, each line cut.
-use Rattle.std.specs.Prelude.{◌<◌, ◌≤◌, ◌∷◌, ◌++◌}
-use Rattle.common.specs.Words.{ℕ, zero, suc, arith, Bool, true, false, cond, List, [], map, append_assoc}
-use Rattle.common.specs.Words.{append-nil}
-use Rattle.std.specs.Prelude.{◌≡◌}
-use Rattle.common.specs.Words.{refl}
-use Rattle.common.specs.Words.{sym, ap, ◌∙◌, eqb, ne_eqb, length, take, length-take, take_all}
+use Rattle.std.specs.Prelude.{◌<◌, ◌≤◌, ◌∷◌, ◌++◌, ◌≡◌}
+use Rattle.common.specs.Words.{ℕ, zero, suc, arith, Bool, true, false, cond, List, [], map, append_assoc, append-nil, refl, sym, ap, ◌∙◌, eqb}
+use Rattle.common.specs.Words.{ne_eqb, length, take, length-take, take_all}
 use Rattle.lines.specs.Lines.{line_feed, carry_limit, cut, fed, ended}
 pub use Rattle.lines.specs.Lines.{begun}
 unfoldable pub use Rattle.lines.specs.Lines.{pieces, counted, lines_of}

@@ -1,7 +1,13 @@
 -- Laws of connections: what the code does one after another is what the rules say, and how far they go.
 use Rattle.std.specs.Prelude.{◌&&◌, ◌≡◌}
+<<<<<<< HEAD
 use Rattle.common.specs.Words.{ℕ, arith, Bool, true, false, cond, List, refl, ap, ◌∙◌, ne_eqb}
 use Rattle.words.specs.Kinds.{SEMICOLON}
+=======
+use Rattle.common.specs.Words.{ℕ, arith, Bool, true, false, cond, List, [], refl, sym, ap, ◌∙◌, eqb, eq-eqb, ne_eqb, get_or}
+use Rattle.words.specs.Words.{is_name}
+use Rattle.words.specs.Kinds.{ENDED, DOT, SEMICOLON}
+>>>>>>> 3717ac6 (Imports: a line for each page that is named)
 use Rattle.tokens.specs.Tokens.{Token}
 use Rattle.tokens.specs.Laws.{cases}
 use Rattle.steps.specs.Steps.{Step, On, Stop, ◌⟫◌, head, next, second, the}
@@ -11,12 +17,12 @@ use Rattle.phrases.specs.Phrases.{maybe_label, word_and_rest}
 use Rattle.phrases.specs.Laws.{link_kind_moves, place_moves, arrow_moves, word_moves, maybe_label_moves}
 use Rattle.rows.specs.Said.{Said, Rule, quiet, ◌⨟◌, optionally, put, apart}
 use Rattle.rows.specs.States.{State, does}
-use Rattle.rows.specs.Laws.{MovesOn, moved_onward, moves_quiet, moves_put, moves_apart, moves_repeat, advances_on, by_went}
-use Rattle.rows.specs.Laws.{does_then, does_then_at, does_on, does_off, optionally_off, moves_optionally}
+use Rattle.rows.specs.Laws.{MovesOn, moved_onward, moves_quiet, moves_put, moves_apart, moves_repeat, advances_on, by_went, does_then, does_then_at}
+use Rattle.rows.specs.Laws.{does_on, does_off, optionally_off, moves_optionally}
 use Rattle.properties.specs.Properties.{of_port, maybe_block_in}
 use Rattle.properties.specs.Laws.{maybe_block_moves}
-use Rattle.links.specs.Links.{ends, sending, receiving, pointed, timing_by, linked, declared, link, other_kind}
-use Rattle.links.specs.Links.{connection_of, label_in, connection, connection_kind, connections}
+use Rattle.links.specs.Links.{ends, sending, receiving, pointed, timing_by, linked, declared, link, other_kind, connection_of, label_in, connection}
+use Rattle.links.specs.Links.{connection_kind, connections}
 
 -- a connection's Timing
 pub timing_block : (t : ℕ) (d : Bool) → (t ≡ 0 → ⊥) → t ≡ timing_by t d

@@ -10,8 +10,8 @@ use Rattle.rows.specs.Said.{quiet, put}
 use Rattle.rows.specs.Pays.{PaidBy, Pays, paid_less, paid_moved, pays_quiet, paid_onward, pays_put, pays_optionally, pays_apart, pays_repeat}
 use Rattle.properties.specs.Properties.{of_port, maybe_block_in}
 use Rattle.properties.specs.Pays.{maybe_block_pays}
-use Rattle.links.specs.Links.{sending, receiving, pointed, linked, declared, link, other_kind, connection_of, label_in}
-use Rattle.links.specs.Links.{connection, connection_kind, connections}
+use Rattle.links.specs.Links.{sending, receiving, pointed, linked, declared, link, other_kind, connection_of, label_in, connection, connection_kind}
+use Rattle.links.specs.Links.{connections}
 use Rattle.links.specs.Laws.{ends_moves}
 
 link_pays : (p start n : ℕ) → Pays 0 0 (link p start n)

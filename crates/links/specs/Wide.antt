@@ -10,8 +10,8 @@ use Rattle.rows.specs.Said.{quiet, put}
 use Rattle.rows.specs.Wide.{Wide, WideOn, wide_silent, wide_quiet, wide_put, wide_onward, wide_optionally, wide_apart, wide_repeat}
 use Rattle.properties.specs.Properties.{of_port, maybe_block_in}
 use Rattle.properties.specs.Wide.{maybe_block_wide}
-use Rattle.links.specs.Links.{sending, receiving, ends, pointed, linked, declared, link, other_kind, connection_of, label_in}
-use Rattle.links.specs.Links.{connection, connection_kind, connections}
+use Rattle.links.specs.Links.{sending, receiving, ends, pointed, linked, declared, link, other_kind, connection_of, label_in, connection}
+use Rattle.links.specs.Links.{connection_kind, connections}
 
 link_wide : (p start n : ℕ) → WideOn (link p start n)
 unfolding link declared link_row

@@ -1,9 +1,6 @@
 -- Lines behind lines, and masks.
-use Rattle.std.specs.Prelude.{◌+◌, ◌*◌, ◌^◌, ◌≤◌, ◌<◌}
-use Rattle.common.specs.Words.{ℕ, zero, suc, arith, add-one, Bool, true, false, cond}
-use Rattle.std.specs.Prelude.{◌∷◌, ◌++◌}
-use Rattle.common.specs.Words.{List, [], append_assoc, length, length-append, get_or, sets}
-use Rattle.std.specs.Prelude.{◌≡◌}
+use Rattle.std.specs.Prelude.{◌+◌, ◌*◌, ◌^◌, ◌≤◌, ◌<◌, ◌∷◌, ◌++◌, ◌≡◌}
+use Rattle.common.specs.Words.{ℕ, zero, suc, arith, add-one, Bool, true, false, cond, List, [], append_assoc, length, length-append, get_or, sets}
 use Rattle.common.specs.Words.{refl, ◌∙◌, pow-suc, pow-le-pow_right, zero-add}
 use Rattle.common.specs.Stores.{sets_append}
 use Rattle.plan.specs.Limits.{task_limit}

@@ -4,8 +4,8 @@ ghost use Rattle.common.specs.Words.{[], cond, length, sets};
 ghost use Rattle.plan.specs.Limits.{task_limit, queue_limit};
 ghost use Rattle.frames.specs.Answers.{line_of};
 ghost use Rattle.frames.specs.Writing.{Written};
-ghost use Rattle.listing.specs.Lines.{lines_room, task_line, queue_line, mask_of, sender, task_bytes, queue_bytes, each_task};
-ghost use Rattle.listing.specs.Lines.{each_queue, table_lines, unread_bytes};
+ghost use Rattle.listing.specs.Lines.{lines_room, task_line, queue_line, mask_of, sender, task_bytes, queue_bytes, each_task, each_queue};
+ghost use Rattle.listing.specs.Lines.{table_lines, unread_bytes};
 
 use crate::least;
 use digits::numbers::put_number;

@@ -1,10 +1,7 @@
 -- What one line adds to a log, and that it is what its call adds to the history: an 84 is an accepted send, an 85 or an 86 a reading, an 87 an
 -- end. And logs that are one behind the other.
-use Rattle.std.specs.Prelude.{◌&&◌, ◌∷◌, ◌++◌, ◌⊎◌, ◌↔◌}
-use Rattle.common.specs.Words.{ℕ, arith, Bool, true, false, cond, List, [], map, inl, inr}
-use Rattle.std.specs.Prelude.{◌≡◌}
-use Rattle.common.specs.Words.{refl, sym, ap}
-use Rattle.common.specs.Words.{subst, ◌∙◌, eqb}
+use Rattle.std.specs.Prelude.{◌&&◌, ◌∷◌, ◌++◌, ◌⊎◌, ◌↔◌, ◌≡◌}
+use Rattle.common.specs.Words.{ℕ, arith, Bool, true, false, cond, List, [], map, inl, inr, refl, sym, ap, subst, ◌∙◌, eqb}
 use Rattle.calendar.specs.Calendar.{message}
 use Rattle.plan.specs.Plan.{queue_at}
 use Rattle.plan.specs.Says.{Said}

@@ -5,8 +5,7 @@ use Rattle.common.specs.Totals.{sum, most}
 use Rattle.common.proofs.Rows.{every, some, first_bad}
 use Rattle.common.specs.Table.{table}
 use Rattle.model.specs.Model.{count, has_deadline, precedes, up_to, due_at, followers, number, wanted_for, horizon, outdated, euclid, gcd, lcm}
-use Rattle.model.specs.Model.{multiple}
-use Rattle.model.specs.Model.{hyperperiod, messages, need, row_slots, slots_over, slots, first, last, sender_of}
+use Rattle.model.specs.Model.{multiple, hyperperiod, messages, need, row_slots, slots_over, slots, first, last, sender_of}
 use Rattle.calendar.specs.Calendar.{tick}
 use Rattle.plan.specs.Limits.{last_tick}
 use Rattle.plan.specs.Plan.{queue_at}

@@ -1,10 +1,7 @@
 -- A number that an answer writes in so many bytes is the one that its line's digits say, where it fits them.
-use Rattle.std.specs.Prelude.{◌+◌, ◌*◌, ◌/◌, ◌%◌, ◌^◌, ◌<◌, ◌∷◌, ◌++◌}
-use Rattle.common.specs.Words.{ℕ, zero, suc, arith, true, List, []}
-use Rattle.std.specs.Prelude.{◌≡◌}
-use Rattle.common.specs.Words.{refl, ◌∙◌, eqb, length}
-use Rattle.common.specs.Words.{get_or, length-append, get_or-append, eqb-true, div-add-mod', mod-lt, get_or_at, ⊎_elim, eq-or-lt_of_le}
-use Rattle.common.specs.Words.{le_of_suc-le-suc}
+use Rattle.std.specs.Prelude.{◌+◌, ◌*◌, ◌/◌, ◌%◌, ◌^◌, ◌<◌, ◌∷◌, ◌++◌, ◌≡◌}
+use Rattle.common.specs.Words.{ℕ, zero, suc, arith, true, List, [], refl, ◌∙◌, eqb, length, get_or, length-append, get_or-append, eqb-true}
+use Rattle.common.specs.Words.{div-add-mod', mod-lt, get_or_at, ⊎_elim, eq-or-lt_of_le, le_of_suc-le-suc}
 use Rattle.common.proofs.Rows.{every, every_at}
 use Rattle.common.specs.Table.{table_at}
 use Rattle.digits.specs.Hex.{digit, letter, byte_at, bytes_in, digits}

@@ -1,9 +1,6 @@
 -- A session follows a history: from the accepted 03 on, the desk, the memory and the log are those of the calls that the lines make.
-use Rattle.std.specs.Prelude.{◌∷◌, ◌++◌, ◌⊎◌, ◌↔◌}
-use Rattle.common.specs.Words.{ℕ, arith, true, false, List, [], append_assoc, append-nil, map, inl, inr}
-use Rattle.std.specs.Prelude.{◌≡◌}
-use Rattle.common.specs.Words.{refl}
-use Rattle.common.specs.Words.{sym, ap, subst, ◌∙◌}
+use Rattle.std.specs.Prelude.{◌∷◌, ◌++◌, ◌⊎◌, ◌↔◌, ◌≡◌}
+use Rattle.common.specs.Words.{ℕ, arith, true, false, List, [], append_assoc, append-nil, map, inl, inr, refl, sym, ap, subst, ◌∙◌}
 use Rattle.plan.specs.Plan.{queue_at}
 use Rattle.planning.specs.AcceptedPlan.{Made}
 use Rattle.mailbox.specs.Calls.{fresh, start_answer, start_memory, send_answer, send_state, send_memory, look, receive_state, receiving_job}
@@ -12,8 +9,7 @@ use Rattle.desk.specs.Desk.{Turn, says, planned, with_run, with_state, line_turn
 use Rattle.calls.specs.CallLines.{sent_bytes, filler, received_bytes}
 use Rattle.feed.specs.Answers as feed
 use Rattle.history.specs.History.{Call, send, receive, World, History, start, ◌then◌, same, more, Begins, after, world, send_says, receive_says}
-use Rattle.history.specs.History.{go_on}
-use Rattle.history.specs.History.{history, SentIn, Sends, reads, read_by, ReadToEnd}
+use Rattle.history.specs.History.{go_on, history, SentIn, Sends, reads, read_by, ReadToEnd}
 use Rattle.history.proofs.Lists.{go_on_append}
 use Rattle.logs.specs.Types.{Tick, Plan, Started, Received, Frame, Desk}
 use Rattle.logs.specs.Said.{frame_in, payload_of}
@@ -21,8 +17,8 @@ use Rattle.logs.specs.Log.{Entry, Log, log_of, opened, call_made, calls_in, Stor
 use Rattle.logs.specs.Session.{line_for, state_and_memory, Runs}
 use Rattle.logs.proofs.Frames.{sending, receiving, line_turn_lem}
 use Rattle.logs.proofs.Turns.{Acts, sends, receives, idles, running_acts, Quiet, Waits, starts, waits, waiting}
-use Rattle.logs.proofs.Entries.{stored_append, ended_append, lines_append, quiet_stores, quiet_ends, quiet_lines, sent_stores, sent_ends}
-use Rattle.logs.proofs.Entries.{sent_lines, received_stores, received_empty, received_lines}
+use Rattle.logs.proofs.Entries.{stored_append, ended_append, lines_append, quiet_stores, quiet_ends, quiet_lines, sent_stores, sent_ends, sent_lines}
+use Rattle.logs.proofs.Entries.{received_stores, received_empty, received_lines}
 
 -- ## One line more
 

@@ -3,9 +3,8 @@ use Rattle.std.specs.Prelude.{◌≡◌}
 use Rattle.common.specs.Words.{ℕ, Bool, true, false, cond, List, refl, ◌∙◌}
 use Rattle.mailbox.specs.Calls.{send_answer, send_state, send_memory, look, receive_state}
 use Rattle.console.specs.Framing.{line_framed}
-use Rattle.desk.specs.Desk.{Turn, says, bad, task_turn, queue_turn, go_turn, with_state}
+use Rattle.desk.specs.Desk.{Turn, says, bad, task_turn, queue_turn, go_turn, with_state, call_turn, frame_turn, bytes_turn, line_turn}
 use Rattle.calls.specs.CallLines.{CallDone, sent_bytes, received_bytes, call_of, line_call}
-use Rattle.desk.specs.Desk.{call_turn, frame_turn, bytes_turn, line_turn}
 use Rattle.logs.specs.Types.{Tick, Frame, Desk}
 use Rattle.logs.specs.Said.{frame_in, payload_of}
 

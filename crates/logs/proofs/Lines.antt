@@ -1,16 +1,14 @@
 -- Each answer's line says the answer's code and values, where they fit the bytes that they are written in.
-use Rattle.std.specs.Prelude.{◌+◌, ◌*◌, ◌/◌, ◌^◌, ◌<◌, ◌∷◌, ◌++◌}
-use Rattle.common.specs.Words.{ℕ, zero, suc, arith, List, [], append_assoc}
-use Rattle.std.specs.Prelude.{◌≡◌}
-use Rattle.common.specs.Words.{append-nil, refl, sym, ap}
-use Rattle.common.specs.Words.{◌∙◌, ⊎_elim, eq-or-lt_of_le, le_of_suc-le-suc, length, get_or, length-append}
+use Rattle.std.specs.Prelude.{◌+◌, ◌*◌, ◌/◌, ◌^◌, ◌<◌, ◌∷◌, ◌++◌, ◌≡◌}
+use Rattle.common.specs.Words.{ℕ, zero, suc, arith, List, [], append_assoc, append-nil, refl, sym, ap, ◌∙◌, ⊎_elim, eq-or-lt_of_le}
+use Rattle.common.specs.Words.{le_of_suc-le-suc, length, get_or, length-append}
 use Rattle.common.specs.Table.{table}
 use Rattle.plan.specs.Refusals.{number_of}
 use Rattle.plan.specs.Says.{refused_says}
 use Rattle.plan.specs.declared.refusal.Rule.{Rule}
 use Rattle.plan.specs.declared.refusal.Rule.TheVariants.{TaskOrQueueCount, PeriodOrDeadline, ReceiverOrSender, HyperperiodTooLong, TooManyMessages}
-use Rattle.plan.specs.declared.refusal.Rule.TheVariants.{TooManySlots, UnsoundPlan, ShortMemory, NoSuchSender, TickBeforeState, PastLastTick}
-use Rattle.plan.specs.declared.refusal.Rule.TheVariants.{JobOver, SentAlready, PayloadLength, NoSuchNumber}
+use Rattle.plan.specs.declared.refusal.Rule.TheVariants.{TooManySlots, UnsoundPlan, ShortMemory, NoSuchSender, TickBeforeState, PastLastTick, JobOver}
+use Rattle.plan.specs.declared.refusal.Rule.TheVariants.{SentAlready, PayloadLength, NoSuchNumber}
 use Rattle.digits.specs.Hex.{digit, bytes_in, digits}
 use Rattle.digits.specs.Numbers.{value_at, in_bytes}
 use Rattle.digits.specs.NumberLaws.{bytes_length}

@@ -9,10 +9,8 @@ use Rattle.running.specs.View.{view_of}
 use Rattle.digits.specs.Numbers.{value_at, in_bytes}
 use Rattle.digits.specs.NumberLaws.{value_back}
 use Rattle.frames.specs.Answers.{line_of}
-use Rattle.desk.specs.Desk.{Turn, silent, bad, row_turn, with_task, with_queue, planned, square_of, start_turn, plan_turn, go_turn}
-use Rattle.calls.specs.CallLines.{sent_bytes, filler}
-use Rattle.desk.specs.Desk.{line_turn}
-use Rattle.calls.specs.CallLines.{received_bytes}
+use Rattle.desk.specs.Desk.{Turn, silent, bad, row_turn, with_task, with_queue, planned, square_of, start_turn, plan_turn, go_turn, line_turn}
+use Rattle.calls.specs.CallLines.{sent_bytes, filler, received_bytes}
 use Rattle.logs.specs.Types.{Plan, Answer, Started, Sent, Received, Frame, Desk}
 use Rattle.logs.specs.Said.{frame_in, payload_of, said_in, received_told, start_told, plan_told, bad_told, nothing_told, row_told, frame_told}
 use Rattle.logs.proofs.Lines.{stored_back, gap_back, message_back, empty_back, bad_back, nothing_back, refusal_back, sizes_back}

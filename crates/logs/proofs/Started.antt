@@ -1,8 +1,6 @@
 -- A session in which an 03 was accepted: the lines before it, the 03, and the lines since then, which are a history on the desk's plan.
 use Rattle.std.specs.Prelude.{◌<◌, ◌∷◌, ◌++◌, ◌↔◌, ◌≡◌}
-use Rattle.common.specs.Words.{ℕ, arith, Bool, true, false, cond, List, [], map, inl, inr, refl}
-use Rattle.common.specs.Words.{sym, ap, subst}
-use Rattle.common.specs.Words.{◌∙◌}
+use Rattle.common.specs.Words.{ℕ, arith, Bool, true, false, cond, List, [], map, inl, inr, refl, sym, ap, subst, ◌∙◌}
 use Rattle.common.specs.Tests.{clash}
 use Rattle.planning.specs.AcceptedPlan.{Made}
 use Rattle.mailbox.specs.Calls.{start_answer}

@@ -25,8 +25,8 @@ use Rattle.history.proofs.Made.{made_fits}
 use Rattle.history.proofs.Same.{read_to_end}
 use Rattle.history.proofs.Theorems as history
 use Rattle.logs.specs.Types.{Plan}
-use Rattle.logs.specs.Log.{Entry, Log, written, opened, session_log, desk_after, calls_in, AcceptedIn, Stores, StoredIn, lines_to, SameTable}
-use Rattle.logs.specs.Log.{EndedIn, RightLines, AmongLines}
+use Rattle.logs.specs.Log.{Entry, Log, written, opened, session_log, desk_after, calls_in, AcceptedIn, Stores, StoredIn, lines_to, SameTable, EndedIn}
+use Rattle.logs.specs.Log.{RightLines, AmongLines}
 use Rattle.logs.proofs.Verbatim.{message_verbatim}
 use Rattle.logs.specs.Session.{Runs, AsHistory, calls}
 use Rattle.logs.proofs.Started.{has_started, accepted_runs, log_written, runs_later, right_lines, among_lines, end_queue, same_plan, same_runs}

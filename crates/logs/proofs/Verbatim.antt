@@ -1,12 +1,7 @@
 -- The digits of a payload in an 85 are those of the 04 that stored it, one by one.
-use Rattle.std.specs.Prelude.{◌+◌, ◌-◌, ◌*◌, ◌/◌, ◌%◌, ◌<◌, ◌≤◌}
-use Rattle.common.specs.Words.{ℕ, zero, suc, arith, Bool, true, false, cond, List}
-use Rattle.std.specs.Prelude.{◌∷◌, ◌++◌}
-use Rattle.common.specs.Words.{[]}
-use Rattle.std.specs.Prelude.{◌⊎◌, ◌≡◌}
-use Rattle.common.specs.Words.{append_assoc, append-nil, inl, inr, refl, sym, ap, ◌∙◌, length, get_or, drop, ext_get_or}
-use Rattle.common.specs.Words.{le-leb, lt-leb}
-use Rattle.common.specs.Words.{le-ltb, lt-ltb, ltb-true}
+use Rattle.std.specs.Prelude.{◌+◌, ◌-◌, ◌*◌, ◌/◌, ◌%◌, ◌<◌, ◌≤◌, ◌∷◌, ◌++◌, ◌⊎◌, ◌≡◌}
+use Rattle.common.specs.Words.{ℕ, zero, suc, arith, Bool, true, false, cond, List, [], append_assoc, append-nil, inl, inr, refl, sym, ap, ◌∙◌}
+use Rattle.common.specs.Words.{length, get_or, drop, ext_get_or, le-leb, lt-leb, le-ltb, lt-ltb, ltb-true}
 use Rattle.common.specs.Tests.{lt_or_le, and_right}
 use Rattle.common.proofs.Rows.{every_at}
 use Rattle.common.specs.Table.{table_at}

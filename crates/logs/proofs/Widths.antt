@@ -1,10 +1,8 @@
 -- What an answer has to say fits the bytes that its line has for it: numbers, slots, sizes, senders and rows, on every input. It leans on
 -- history's cases of a call and on the limits of a sound plan.
-use Rattle.std.specs.Prelude.{◌*◌, ◌%◌, ◌^◌, ◌<◌, ◌≤◌, ◌&&◌, ◌∷◌, ◌++◌}
-use Rattle.common.specs.Words.{ℕ, arith, Bool, true, List, []}
-use Rattle.std.specs.Prelude.{◌⊎◌, ◌≡◌}
-use Rattle.common.specs.Words.{inl, inr, refl, sym}
-use Rattle.common.specs.Words.{subst, ap, ◌∙◌, drop, ltb, ltb-true, not-false, mod-lt, mul-le-mul, div-mul-le_self}
+use Rattle.std.specs.Prelude.{◌*◌, ◌%◌, ◌^◌, ◌<◌, ◌≤◌, ◌&&◌, ◌∷◌, ◌++◌, ◌⊎◌, ◌≡◌}
+use Rattle.common.specs.Words.{ℕ, arith, Bool, true, List, [], inl, inr, refl, sym, subst, ap, ◌∙◌, drop, ltb, ltb-true, not-false, mod-lt}
+use Rattle.common.specs.Words.{mul-le-mul, div-mul-le_self}
 use Rattle.common.specs.Tests.{both, having}
 use Rattle.model.specs.Model.{Queue, Sender, receiver_period, deadline_of, number, up_to, last, sender_of}
 use Rattle.model.proofs.Number.{up_to_le, up_to_mono, number_below}

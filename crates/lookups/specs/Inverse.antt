@@ -1,10 +1,8 @@
 -- The lookups among each other: number and way back invert each other wherever either answers, and a window answers the numbers of the
 -- messages with deadlines after the job's previous release and not after its own.
 use Rattle.std.specs.Prelude.{◌-◌, ◌*◌, ◌<◌, ◌≤◌, ◌↔◌, ◌≡◌}
-use Rattle.common.specs.Words.{ℕ, arith, pos_of_ne-zero, zero-mul, true, false, not}
-use Rattle.common.specs.Words.{ltb, ltb-true}
-use Rattle.common.specs.Words.{ltb-false, lt-ltb}
-use Rattle.common.specs.Words.{le-ltb, eqb-false, ne_eqb, not-false}
+use Rattle.common.specs.Words.{ℕ, arith, pos_of_ne-zero, zero-mul, true, false, not, ltb, ltb-true, ltb-false, lt-ltb, le-ltb, eqb-false, ne_eqb}
+use Rattle.common.specs.Words.{not-false}
 use Rattle.common.specs.Tests.{having}
 use Rattle.model.specs.Model.{Sender, receiver_period, released, deadline_of, number, up_to, sender_of, job_of, first, last}
 use Rattle.model.proofs.Number.{number_iff, number_above}

@@ -1,9 +1,7 @@
 -- What accepted calls do for each other: a start leaves every slot unwritten, and a message that was sent is the one that a receive of
 -- its number finds, with its payload in view. Histories with other calls between are the crate history's.
 use Rattle.std.specs.Prelude.{◌+◌, ◌*◌, ◌<◌, ◌≤◌, ◌^◌, ◌≡◌}
-use Rattle.common.specs.Words.{ℕ, arith, div-mul-le_self, List, refl, ap, ◌∙◌}
-use Rattle.common.specs.Words.{length, lt-ltb, le-ltb, lt-leb}
-use Rattle.common.specs.Words.{le-leb, eq-eqb}
+use Rattle.common.specs.Words.{ℕ, arith, div-mul-le_self, List, refl, ap, ◌∙◌, length, lt-ltb, le-ltb, lt-leb, le-leb, eq-eqb}
 use Rattle.model.specs.Model.{receiver_period, last, wanted_until}
 use Rattle.model.proofs.Number.{number_below}
 use Rattle.model.proofs.Window.{last_iff}

@@ -8,8 +8,8 @@ use Rattle.mailbox.specs.Types.{Plan, Refusal, Verdict, State, Started, Sent, Re
 use Rattle.model.specs.Model.{last, sender_of}
 use Rattle.calendar.specs.Calendar.{message, slot}
 use Rattle.running.specs.Calls as running
-use Rattle.mailbox.specs.Calls.{start_lines, start_answer, start_memory, send_lines, send_answer, send_state, send_memory, receive_lines}
-use Rattle.mailbox.specs.Calls.{slot_for, receiving_job, next_number, look, accepted_receive, found, receive_state}
+use Rattle.mailbox.specs.Calls.{start_lines, start_answer, start_memory, send_lines, send_answer, send_state, send_memory, receive_lines, slot_for}
+use Rattle.mailbox.specs.Calls.{receiving_job, next_number, look, accepted_receive, found, receive_state}
 use Rattle.slots.specs.Slots.{number_in}
 use Rattle.plan.specs.Verdicts.{verdict, outcome, by_verdict, Stopped, verdict_stopped, stopped_verdict}
 

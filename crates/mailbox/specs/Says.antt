@@ -9,8 +9,8 @@ use Rattle.plan.specs.Rules.{sound_plan, connected}
 use Rattle.mailbox.specs.Types.{Plan, State, Started, Sent, Received}
 use Rattle.timing.specs.Timing.{sent_already}
 use Rattle.running.specs.Calls as running
-use Rattle.mailbox.specs.Calls.{start_lines, start_answer, send_lines, running_job, running_deadline, running_number, slot_in}
-use Rattle.mailbox.specs.Calls.{unsent_at, send_answer, receive_lines, receiving_job, look, accepted_receive, started_says, sent_says, received_says}
+use Rattle.mailbox.specs.Calls.{start_lines, start_answer, send_lines, running_job, running_deadline, running_number, slot_in, unsent_at, send_answer}
+use Rattle.mailbox.specs.Calls.{receive_lines, receiving_job, look, accepted_receive, started_says, sent_says, received_says}
 use Rattle.plan.specs.Verdicts.{judged_map}
 
 -- "Running calls test 7, 8, 14, 9, 11, 10, 12, 13, as far as each applies"

@@ -1,11 +1,9 @@
 -- The laws of `count` and `has_deadline` for one task with period P and deadline D.
 -- `has_deadline` is known outside only by `has_own` and `has_job`: a new definition of it proves these two again.
-use Rattle.std.specs.Prelude.{◌+◌, ◌-◌, ◌*◌, ◌/◌, ◌%◌, ◌<◌, ◌≤◌}
-use Rattle.common.specs.Words.{ℕ, zero, suc, arith, le-div_iff_mul-le}
-use Rattle.common.specs.Words.{mul-le-mul_left, mul-one}
-use Rattle.common.specs.Words.{mul-le-mul_right, lt_of_mul-lt-mul_right, mul-mod_left, div-add-mod', lt-div-mul-add, add-sub_cancel, true, false}
-use Rattle.std.specs.Prelude.{◌↔◌, ◌≡◌}
-use Rattle.common.specs.Words.{true≢false, ⊎_elim, sym, ap, ◌∙◌, leb, lt-ltb, le-ltb, le-leb, eqb-true, leb-true}
+use Rattle.std.specs.Prelude.{◌+◌, ◌-◌, ◌*◌, ◌/◌, ◌%◌, ◌<◌, ◌≤◌, ◌↔◌, ◌≡◌}
+use Rattle.common.specs.Words.{ℕ, zero, suc, arith, le-div_iff_mul-le, mul-le-mul_left, mul-one, mul-le-mul_right, lt_of_mul-lt-mul_right}
+use Rattle.common.specs.Words.{mul-mod_left, div-add-mod', lt-div-mul-add, add-sub_cancel, true, false, true≢false, ⊎_elim, sym, ap, ◌∙◌}
+use Rattle.common.specs.Words.{leb, lt-ltb, le-ltb, le-leb, eqb-true, leb-true}
 use Rattle.common.specs.Totals.{only, le_by, eq_by}
 use Rattle.model.specs.Model.{count, has_deadline}
 use Rattle.common.specs.Tests.{lt_or_le, true_or_false, and_left, and_right}

@@ -1,11 +1,8 @@
 -- The greatest common divisor by Euclid's rule: the two rules that determine it, and what it is.
-use Rattle.std.specs.Prelude.{◌≡◌, ◌+◌, ◌*◌, ◌/◌, ◌%◌}
-use Rattle.common.specs.Words.{refl, sym, ap, ◌∙◌, false, cond, ⊎_elim, ℕ, zero, suc}
-use Rattle.std.specs.Prelude.{◌<◌}
-use Rattle.common.specs.Words.{not-suc-le-zero}
-use Rattle.common.specs.Words.{mod-lt}
-use Rattle.common.specs.Words.{eq-zero-or-pos, dvd_refl, dvd-zero, dvd-mod_iff, zero-mul, mul-pos, add-mul, mul_assoc, mul-lt-mul_of_pos_right}
-use Rattle.common.specs.Words.{div-add-mod', arith, eq-eqb, ne_eqb, eqb}
+use Rattle.std.specs.Prelude.{◌≡◌, ◌+◌, ◌*◌, ◌/◌, ◌%◌, ◌<◌}
+use Rattle.common.specs.Words.{refl, sym, ap, ◌∙◌, false, cond, ⊎_elim, ℕ, zero, suc, not-suc-le-zero, mod-lt, eq-zero-or-pos, dvd_refl}
+use Rattle.common.specs.Words.{dvd-zero, dvd-mod_iff, zero-mul, mul-pos, add-mul, mul_assoc, mul-lt-mul_of_pos_right, div-add-mod', arith, eq-eqb}
+use Rattle.common.specs.Words.{ne_eqb, eqb}
 use Rattle.std.proofs.Math.Arith.{digits_mod}
 use Rattle.model.specs.Model.{euclid, gcd}
 use Rattle.model.specs.Source.{IsGcd}

@@ -3,8 +3,8 @@ use Rattle.std.specs.Prelude.{◌+◌, ◌-◌, ◌/◌, ◌≤◌, ◌≡◌}
 use Rattle.common.specs.Words.{ℕ, arith, true, false, ⊎_elim, ◌∙◌}
 use Rattle.common.specs.Tests.{true_or_false}
 use Rattle.common.specs.Totals.{only, only_eq, only_add, sum_ext, sum_add}
-use Rattle.model.specs.Model.{Queue, Valid, Sender, receiver_period, messages, count_of, up_to, release_of, deadline_of}
-use Rattle.model.specs.Model.{number, precedes, horizon, wanted_for, outdated}
+use Rattle.model.specs.Model.{Queue, Valid, Sender, receiver_period, messages, count_of, up_to, release_of, deadline_of, number, precedes, horizon}
+use Rattle.model.specs.Model.{wanted_for, outdated}
 use Rattle.model.specs.Source.{CommonMultiple, jobs_before}
 use Rattle.model.proofs.Count.{count_hyper}
 use Rattle.model.proofs.Order.{period_pos, deadline_positive}

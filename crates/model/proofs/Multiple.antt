@@ -1,12 +1,9 @@
 -- The least common multiple of two numbers by the greatest common divisor, and of a queue's periods: its hyperperiod.
-use Rattle.std.specs.Prelude.{◌≡◌, ◌+◌, ◌*◌, ◌/◌}
-use Rattle.common.specs.Words.{refl, sym, ap, ◌∙◌, Bool, true, false, cond, ⊎_elim, ℕ, zero, suc}
-use Rattle.std.specs.Prelude.{◌≤◌, ◌<◌}
-use Rattle.common.specs.Words.{◌∣◌}
-use Rattle.common.specs.Words.{le_refl}
-use Rattle.common.specs.Words.{le_trans, one-mul, mul_comm, mul_assoc, le-mul_of_pos_right, le-div_iff_mul-le, le_of_dvd, pos_of_dvd_of_pos}
-use Rattle.common.specs.Words.{dvd_refl, dvd_trans, dvd-mul_right, dvd-mul_left, mul-div_cancel', div-mul_cancel, mul-dvd-mul_left}
-use Rattle.common.specs.Words.{dvd_of_mul-dvd-mul_left, add-one, arith}
+use Rattle.std.specs.Prelude.{◌≡◌, ◌+◌, ◌*◌, ◌/◌, ◌≤◌, ◌<◌}
+use Rattle.common.specs.Words.{refl, sym, ap, ◌∙◌, Bool, true, false, cond, ⊎_elim, ℕ, zero, suc, ◌∣◌, le_refl, le_trans, one-mul}
+use Rattle.common.specs.Words.{mul_comm, mul_assoc, le-mul_of_pos_right, le-div_iff_mul-le, le_of_dvd, pos_of_dvd_of_pos, dvd_refl, dvd_trans}
+use Rattle.common.specs.Words.{dvd-mul_right, dvd-mul_left, mul-div_cancel', div-mul_cancel, mul-dvd-mul_left, dvd_of_mul-dvd-mul_left, add-one}
+use Rattle.common.specs.Words.{arith}
 use Rattle.common.specs.Tests.{lt_or_le}
 use Rattle.model.specs.Model.{Queue, Valid, Sender, gcd, lcm, multiple, hyperperiod, receiver_period}
 use Rattle.model.specs.Source.{CommonMultiple}

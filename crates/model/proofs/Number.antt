@@ -1,12 +1,9 @@
 -- Message numbers: equation 2 is one more than the count of the messages before. The numbers rise with the order, and each from 1 on
 -- belongs to exactly one message, whose deadline is the least tick with so many messages up to it.
-use Rattle.std.specs.Prelude.{◌+◌, ◌-◌, ◌*◌, ◌<◌, ◌≤◌, ◌↔◌}
-use Rattle.common.specs.Words.{ℕ, suc, arith, ℕ_discrete, Bool, true, false, ⊎_elim}
-use Rattle.std.specs.Prelude.{◌≡◌}
-use Rattle.common.specs.Words.{refl, sym}
-use Rattle.common.specs.Words.{subst, ◌∙◌, eqb}
-use Rattle.common.specs.Totals.{only, sum, only_le, only_eq, only_most, only_zero, sum_le, sum_bound, sum_ext, sum_add}
-use Rattle.common.specs.Totals.{sum_one, sum_zero, sum_at, only_self, only_other, crossing}
+use Rattle.std.specs.Prelude.{◌+◌, ◌-◌, ◌*◌, ◌<◌, ◌≤◌, ◌↔◌, ◌≡◌}
+use Rattle.common.specs.Words.{ℕ, suc, arith, ℕ_discrete, Bool, true, false, ⊎_elim, refl, sym, subst, ◌∙◌, eqb}
+use Rattle.common.specs.Totals.{only, sum, only_le, only_eq, only_most, only_zero, sum_le, sum_bound, sum_ext, sum_add, sum_one, sum_zero, sum_at}
+use Rattle.common.specs.Totals.{only_self, only_other, crossing}
 use Rattle.model.specs.Model.{Queue, Valid, Sender, has_deadline, deadline_of, count_of, up_to, due_at, precedes, followers, number}
 use Rattle.model.specs.Source.{Before, jobs_before}
 use Rattle.common.specs.Tests.{lt_or_le, true_or_false, having, clash, and_left, and_right}

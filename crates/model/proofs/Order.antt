@@ -1,11 +1,7 @@
 -- Definition 1's order of the messages of a queue is strict and total, and for each sender it is a bound on its jobs.
-use Rattle.std.specs.Prelude.{◌-◌, ◌<◌, ◌≤◌, ◌⊎◌}
-use Rattle.common.specs.Words.{ℕ, arith, eq_of_mul-eq-mul_right, ℕ_discrete, true, false, true≢false}
-use Rattle.common.specs.Words.{inl, inr}
-use Rattle.std.specs.Prelude.{◌↔◌}
-use Rattle.common.specs.Words.{⊎_elim}
-use Rattle.std.specs.Prelude.{◌≡◌}
-use Rattle.common.specs.Words.{refl, sym, subst, ◌∙◌}
+use Rattle.std.specs.Prelude.{◌-◌, ◌<◌, ◌≤◌, ◌⊎◌, ◌↔◌, ◌≡◌}
+use Rattle.common.specs.Words.{ℕ, arith, eq_of_mul-eq-mul_right, ℕ_discrete, true, false, true≢false, inl, inr, ⊎_elim, refl, sym, subst}
+use Rattle.common.specs.Words.{◌∙◌}
 use Rattle.common.specs.Tests.{lt_or_le, true_or_false, clash}
 use Rattle.model.specs.Model.{Queue, Valid, Sender, deadline_of, count_of, precedes}
 use Rattle.model.specs.Source.{Before, jobs_before}

@@ -1,10 +1,8 @@
 -- When a message is outdated. `outdated_at` and `horizon` are known outside only by the laws of this file, and `wanted_for` only by
 -- `wanted_pos` and `wanted_fits`: a new length of it proves these two again, and nothing else.
-use Rattle.std.specs.Prelude.{◌+◌, ◌-◌, ◌*◌, ◌/◌, ◌<◌, ◌≤◌}
-use Rattle.common.specs.Words.{ℕ, suc, arith, le-div_iff_mul-le, mul-le-mul_right}
-use Rattle.common.specs.Words.{lt_of_mul-lt-mul_right}
-use Rattle.std.specs.Prelude.{◌↔◌, ◌≡◌}
-use Rattle.common.specs.Words.{div-mul-le_self, lt-div-mul-add, add-mul-div_right, ⊎_elim}
+use Rattle.std.specs.Prelude.{◌+◌, ◌-◌, ◌*◌, ◌/◌, ◌<◌, ◌≤◌, ◌↔◌, ◌≡◌}
+use Rattle.common.specs.Words.{ℕ, suc, arith, le-div_iff_mul-le, mul-le-mul_right, lt_of_mul-lt-mul_right, div-mul-le_self, lt-div-mul-add}
+use Rattle.common.specs.Words.{add-mul-div_right, ⊎_elim}
 use Rattle.model.specs.Model.{Queue, Valid, receiver_period, horizon, wanted_for}
 use Rattle.model.specs.Source.{job_for, outdated_at}
 use Rattle.common.specs.Tests.{lt_or_le}

@@ -1,10 +1,7 @@
 -- The least number of slots: the second hyperperiod decides, and its greatest need is the least fit size.
-use Rattle.std.specs.Prelude.{◌+◌, ◌-◌, ◌*◌, ◌/◌, ◌<◌, ◌≤◌}
-use Rattle.common.specs.Words.{ℕ, zero, suc, arith, mul-le-mul_right}
-use Rattle.common.specs.Words.{lt_of_mul-lt-mul_right}
-use Rattle.common.specs.Words.{le_of_mul-le-mul_right}
-use Rattle.std.specs.Prelude.{◌↔◌, ◌≡◌}
-use Rattle.common.specs.Words.{le_refl, true, false, ⊎_elim, ap}
+use Rattle.std.specs.Prelude.{◌+◌, ◌-◌, ◌*◌, ◌/◌, ◌<◌, ◌≤◌, ◌↔◌, ◌≡◌}
+use Rattle.common.specs.Words.{ℕ, zero, suc, arith, mul-le-mul_right, lt_of_mul-lt-mul_right, le_of_mul-le-mul_right, le_refl, true, false}
+use Rattle.common.specs.Words.{⊎_elim, ap}
 use Rattle.common.specs.Tests.{lt_or_le, true_or_false}
 use Rattle.common.specs.Totals.{most_le}
 use Rattle.model.specs.Model.{Queue, Valid, Sender, receiver_period, release_of, wanted_for, need, row_slots, slots_over, slots, hyperperiod}

@@ -1,9 +1,8 @@
 -- The rule for equal deadlines: what it says (`prec_higher`, `prec_equal`, `prec_iff`), and that it is a strict total order of the rows.
 -- `precedes` is known outside only by the laws here. Another rule proves those down to `prec_total` again, and nothing else.
 use Rattle.std.specs.Prelude.{◌<◌, ◌≤◌, ◌↔◌, ◌≡◌}
-use Rattle.common.specs.Words.{ℕ, ℕ_discrete, arith, true, false, inl, inr, ⊎_elim, refl, sym, subst}
-use Rattle.common.specs.Words.{◌∙◌}
-use Rattle.common.specs.Words.{ltb, ltb-true, ltb-false, lt-ltb, le-ltb, eq-eqb, ne_eqb}
+use Rattle.common.specs.Words.{ℕ, ℕ_discrete, arith, true, false, inl, inr, ⊎_elim, refl, sym, subst, ◌∙◌, ltb, ltb-true, ltb-false}
+use Rattle.common.specs.Words.{lt-ltb, le-ltb, eq-eqb, ne_eqb}
 use Rattle.common.specs.Tests.{true_or_false, clash}
 use Rattle.model.specs.Model.{Queue, precedes}
 use Rattle.model.specs.Source.{Ahead}

@@ -1,10 +1,8 @@
 -- The way back from a number: it leads to the one message that has the number, and its deadline is the least tick with so many messages.
 -- It leans on Number's laws: numbers are one-to-one, and each is some message's.
-use Rattle.std.specs.Prelude.{◌-◌, ◌<◌, ◌≤◌}
-use Rattle.common.specs.Words.{ℕ, zero, suc, arith, mul-div_cancel, add-sub_cancel, lt_of_not-le, not-le_of_lt, Bool}
-use Rattle.common.specs.Words.{true, false}
-use Rattle.std.specs.Prelude.{◌↔◌, ◌≡◌}
-use Rattle.common.specs.Words.{not, ⊎_elim, refl, sym, ◌∙◌, ltb, lt-ltb, le-ltb, eq-eqb, eqb-true, ltb-false, ltb-true}
+use Rattle.std.specs.Prelude.{◌-◌, ◌<◌, ◌≤◌, ◌↔◌, ◌≡◌}
+use Rattle.common.specs.Words.{ℕ, zero, suc, arith, mul-div_cancel, add-sub_cancel, lt_of_not-le, not-le_of_lt, Bool, true, false, not, ⊎_elim}
+use Rattle.common.specs.Words.{refl, sym, ◌∙◌, ltb, lt-ltb, le-ltb, eq-eqb, eqb-true, ltb-false, ltb-true}
 use Rattle.common.specs.Tests.{lt_or_le, having, and_left, and_right}
 use Rattle.common.proofs.Rows.{first_bad, FirstBad, first_bad_is, first_bad_only}
 use Rattle.model.specs.Model.{Queue, Valid, Sender, deadline_of, up_to, due_at, followers, number, tick_of, sent_by, sender_of, job_of}

@@ -1,10 +1,7 @@
 -- Windows: the numbers that a receiver's job is given are those of the messages with deadlines after its previous release and not after
 -- its own. The windows follow one another without hole or overlap.
-use Rattle.std.specs.Prelude.{◌+◌, ◌-◌, ◌*◌, ◌<◌, ◌≤◌}
-use Rattle.common.specs.Words.{ℕ, suc, arith, lt_of_not-le, not-le_of_lt, lt_of_mul-lt-mul_right}
-use Rattle.common.specs.Words.{mul-le-mul_right}
-use Rattle.std.specs.Prelude.{◌↔◌, ◌≡◌}
-use Rattle.common.specs.Words.{zero-mul}
+use Rattle.std.specs.Prelude.{◌+◌, ◌-◌, ◌*◌, ◌<◌, ◌≤◌, ◌↔◌, ◌≡◌}
+use Rattle.common.specs.Words.{ℕ, suc, arith, lt_of_not-le, not-le_of_lt, lt_of_mul-lt-mul_right, mul-le-mul_right, zero-mul}
 use Rattle.common.specs.Tests.{having}
 use Rattle.model.specs.Model.{Queue, Valid, Sender, receiver_period, deadline_of, up_to, number, first, last}
 use Rattle.model.specs.Source.{job_for}

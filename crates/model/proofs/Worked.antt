@@ -4,9 +4,9 @@ use Rattle.std.specs.Prelude.{◌≤◌, ◌&&◌, ◌∷◌, ◌↔◌}
 use Rattle.common.specs.Words.{ℕ, arith, Bool, true, false, List, [], refl, T, eqb, get_or}
 use Rattle.common.specs.Totals.{sum, most}
 use Rattle.common.proofs.Rows.{every}
-use Rattle.model.specs.Model.{Queue, Sender, count, has_deadline, precedes, up_to, due_at, followers, number, first, last}
-use Rattle.model.specs.Model.{wanted_for, horizon, outdated, deadline_of, release_of, euclid, gcd, lcm, multiple}
-use Rattle.model.specs.Model.{hyperperiod, messages, need, row_slots, slots_over, slots}
+use Rattle.model.specs.Model.{Queue, Sender, count, has_deadline, precedes, up_to, due_at, followers, number, first, last, wanted_for, horizon}
+use Rattle.model.specs.Model.{outdated, deadline_of, release_of, euclid, gcd, lcm, multiple, hyperperiod, messages, need, row_slots, slots_over}
+use Rattle.model.specs.Model.{slots}
 use Rattle.model.specs.Source.{Fit, outdated_at, reach, equation3}
 use Rattle.model.specs.Checks.{is_valid, valid_of}
 use Rattle.model.proofs.Slots.{slots_iff}

@@ -1,10 +1,8 @@
 -- The periodic-delayed model, after source 000 (Cadoret and others), sections II and III, as document 01 words it. There are definitions
 -- only, each under its sentence or equation, and all of them compute. Ticks, jobs and slots count from 0, message numbers from 1; a message
 -- is its sender's row i and its job k. Three rules stand alone, because requests change them: `has_deadline`, `precedes`, `wanted_for`.
-use Rattle.std.specs.Prelude.{◌+◌, ◌-◌, ◌*◌, ◌/◌, ◌%◌, ◌<◌, ◌≤◌, ◌&&◌}
-use Rattle.common.specs.Words.{ℕ, zero, suc, Bool, true, cond, not}
-use Rattle.std.specs.Prelude.{◌≡◌}
-use Rattle.common.specs.Words.{leb, ltb, eqb}
+use Rattle.std.specs.Prelude.{◌+◌, ◌-◌, ◌*◌, ◌/◌, ◌%◌, ◌<◌, ◌≤◌, ◌&&◌, ◌≡◌}
+use Rattle.common.specs.Words.{ℕ, zero, suc, Bool, true, cond, not, leb, ltb, eqb}
 use Rattle.common.specs.Terms.{only, sum, most, first_bad}
 unfoldable pub use Rattle.common.specs.Terms.{euclid, gcd, lcm}
 

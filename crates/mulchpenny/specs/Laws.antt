@@ -1,7 +1,6 @@
 -- The calls of feed on a block, one after another, come to what Block.antt says. Leans on feed's fold over a block.
 use Rattle.std.specs.Prelude.{◌+◌, ◌<◌, ◌≤◌, ◌∷◌, ◌++◌, ◌≡◌}
-use Rattle.common.specs.Words.{ℕ, arith, List, [], refl, sym, length, take, drop}
-use Rattle.common.specs.Words.{length-take-le, take-append-add}
+use Rattle.common.specs.Words.{ℕ, arith, List, [], refl, sym, length, take, drop, length-take-le, take-append-add}
 use Rattle.std.proofs.Common.{take-append-drop}
 use Rattle.feed.specs.Answers.{Console, console_of, console_after, answers_to}
 use Rattle.feed.specs.Feed.{Feeding}

@@ -1,8 +1,12 @@
 -- Laws of other declarations: what the code does token by token is what the rule says, and how far it goes.
-use Rattle.std.specs.Prelude.{◌<◌, ◌∷◌, ◌≡◌}
-use Rattle.common.specs.Words.{ℕ, arith, Bool, true, false, true≢false, List, []}
-use Rattle.std.specs.Prelude.{◌&&◌, ◌⊎◌}
-use Rattle.common.specs.Words.{refl, sym, ap, ◌∙◌, eq-eqb, ne_eqb, inl, inr}
+<<<<<<< HEAD
+use Rattle.std.specs.Prelude.{◌<◌, ◌∷◌, ◌≡◌, ◌&&◌, ◌⊎◌}
+use Rattle.common.specs.Words.{ℕ, arith, Bool, true, false, true≢false, List, [], refl, sym, ap, ◌∙◌, eq-eqb, ne_eqb, inl, inr}
+=======
+use Rattle.std.specs.Prelude.{◌<◌, ◌∷◌, ◌++◌, ◌≡◌, ◌&&◌, ◌⊎◌}
+use Rattle.common.specs.Words.{ℕ, suc, arith, Bool, true, false, true≢false, cond, List, [], length, refl, sym, ap, ◌∙◌, eqb, eq-eqb}
+use Rattle.common.specs.Words.{ne_eqb, inl, inr}
+>>>>>>> 3717ac6 (Imports: a line for each page that is named)
 use Rattle.words.specs.Kinds.{ENDED, END, SEMICOLON, APPLIES}
 use Rattle.tokens.specs.Tokens.{Token}
 use Rattle.tokens.specs.Laws.{cases}

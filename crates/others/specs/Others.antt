@@ -1,8 +1,8 @@
 -- AADL.md, sections 2 to 4: other declarations, which are skipped, and the properties in them that would reach a thread from outside.
 use Rattle.std.specs.Prelude.{◌&&◌, ◌∷◌, ◌++◌}
 use Rattle.common.specs.Words.{ℕ, Bool, true, false, cond, List, [], eqb, leb}
-use Rattle.words.specs.Kinds.{ENDED, END, SEMICOLON, APPLIES, BECOMES, ADDS, PERIOD, PRIORITY}
-use Rattle.words.specs.Kinds.{ABSTRACT, BUS, DATA, DEVICE, FEATURE, MEMORY, PROCESS, PROCESSOR, PROPERTY, SUBPROGRAM, SYSTEM, VIRTUAL}
+use Rattle.words.specs.Kinds.{ENDED, END, SEMICOLON, APPLIES, BECOMES, ADDS, PERIOD, PRIORITY, ABSTRACT, BUS, DATA, DEVICE, FEATURE, MEMORY, PROCESS}
+use Rattle.words.specs.Kinds.{PROCESSOR, PROPERTY, SUBPROGRAM, SYSTEM, VIRTUAL}
 use Rattle.tokens.specs.Tokens.{Token}
 use Rattle.steps.specs.declared.Fault.{Fault}
 use Rattle.steps.specs.Faults.{fault}

@@ -1,8 +1,8 @@
 -- Laws of phrases: how far each rule goes, and rules in a row and choices as the code makes them.
 use Rattle.std.specs.Prelude.{◌≡◌}
 use Rattle.common.specs.Words.{ℕ, arith, true, false, true≢false, List, refl, sym, ◌∙◌, eq-eqb, ne_eqb}
-use Rattle.words.specs.Kinds.{ENDED, COLON, SCOPE, DOT, COMMA, SEMICOLON, OPEN-BRACE, ANNEXED, ARROW, DELAYING, ANNEX, DATA}
-use Rattle.words.specs.Kinds.{EVENT, IN, NONE, OUT, PORT}
+use Rattle.words.specs.Kinds.{ENDED, COLON, SCOPE, DOT, COMMA, SEMICOLON, OPEN-BRACE, ANNEXED, ARROW, DELAYING, ANNEX, DATA, EVENT, IN, NONE, OUT}
+use Rattle.words.specs.Kinds.{PORT}
 use Rattle.tokens.specs.Tokens.{Token}
 use Rattle.steps.specs.Steps.{Step, On, Stop, ◌⟫◌, next, second, is, named, any, the, name, optional, many}
 use Rattle.steps.specs.Lifted.{first_kind, second_kind, holds}
@@ -10,10 +10,8 @@ use Rattle.steps.specs.Laws.{Moved, Moves, Advances, advances, moves_any, moved_
 use Rattle.steps.specs.Laws.{moves_optional, moves_many, optional_off, is_off, kind_on}
 use Rattle.values.specs.Values.{block}
 use Rattle.values.specs.Laws.{block_moves}
-use Rattle.phrases.specs.Phrases.{rest_kind, rest, begins_scope, scope, scopes, point, dotted, classifier, join_kind, joint}
-use Rattle.phrases.specs.Phrases.{path, another, paths}
-use Rattle.phrases.specs.Phrases.{annex, direction, port_kind, link_kind, place, arrow, nothing, section_kind, skip_kind}
-use Rattle.phrases.specs.Phrases.{skipped, label, maybe_label}
+use Rattle.phrases.specs.Phrases.{rest_kind, rest, begins_scope, scope, scopes, point, dotted, classifier, join_kind, joint, path, another, paths}
+use Rattle.phrases.specs.Phrases.{annex, direction, port_kind, link_kind, place, arrow, nothing, section_kind, skip_kind, skipped, label, maybe_label}
 use Rattle.phrases.specs.Phrases.{maybe_classifier, word_and_rest}
 
 -- ## How far each rule goes

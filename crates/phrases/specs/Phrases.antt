@@ -1,8 +1,7 @@
 -- AADL.md, section 2: rules that declare nothing by themselves.
 use Rattle.common.specs.Words.{ℕ, Bool, true, false, cond, List, eqb}
-use Rattle.words.specs.Kinds.{ENDED, END, COLON, SCOPE, DOT, COMMA, SEMICOLON, OPEN-BRACE, ANNEXED, ARROW, DELAYING}
-use Rattle.words.specs.Kinds.{ANNEX, CALLS, CONNECTIONS, DATA, EVENT}
-use Rattle.words.specs.Kinds.{FEATURES, FLOWS, IN, MODES, NONE, OUT, PORT, PROPERTIES, PROTOTYPES, SUBCOMPONENTS}
+use Rattle.words.specs.Kinds.{ENDED, END, COLON, SCOPE, DOT, COMMA, SEMICOLON, OPEN-BRACE, ANNEXED, ARROW, DELAYING, ANNEX, CALLS, CONNECTIONS, DATA}
+use Rattle.words.specs.Kinds.{EVENT, FEATURES, FLOWS, IN, MODES, NONE, OUT, PORT, PROPERTIES, PROTOTYPES, SUBCOMPONENTS}
 use Rattle.tokens.specs.Tokens.{Token}
 use Rattle.steps.specs.Steps.{Step, ◌⟫◌, next, second, is, named, any, the, name, optional, many}
 use Rattle.values.specs.Values.{block}

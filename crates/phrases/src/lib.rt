@@ -6,9 +6,8 @@ ghost use Rattle.steps.specs.Steps.{◌⟫◌, the, is, optional};
 ghost use Rattle.words.specs.Kinds.{OPEN-BRACE};
 ghost use Rattle.steps.specs.Lifted.{lift};
 ghost use Rattle.values.specs.Values.{block};
-ghost use Rattle.phrases.specs.Phrases.{rest_kind, rest, scopes, dotted, classifier, join_kind, path, paths, annex, direction, port_kind};
-ghost use Rattle.phrases.specs.Phrases.{link_kind, place, arrow, nothing, section_kind, skip_kind, skipped, label};
-ghost use Rattle.phrases.specs.Phrases.{maybe_label, maybe_classifier, word_and_rest};
+ghost use Rattle.phrases.specs.Phrases.{rest_kind, rest, scopes, dotted, classifier, join_kind, path, paths, annex, direction, port_kind, link_kind};
+ghost use Rattle.phrases.specs.Phrases.{place, arrow, nothing, section_kind, skip_kind, skipped, label, maybe_label, maybe_classifier, word_and_rest};
 
 use steps::{Went, any, is_name, name, next, second, symbol};
 use values::block;

@@ -1,9 +1,6 @@
 -- What a byte outside of comments, strings and annexes begins, and where the plain text has blanks.
-use Rattle.std.specs.Prelude.{◌+◌, ◌<◌, ◌≤◌, ◌&&◌, ◌||◌}
-use Rattle.common.specs.Words.{ℕ, zero, suc, arith, Bool, true, false, cond}
-use Rattle.std.specs.Prelude.{◌∷◌, ◌≡◌}
-use Rattle.common.specs.Words.{List, ⊎_elim, refl, eqb, leb}
-use Rattle.common.specs.Words.{eqb-true, leb-true}
+use Rattle.std.specs.Prelude.{◌+◌, ◌<◌, ◌≤◌, ◌&&◌, ◌||◌, ◌∷◌, ◌≡◌}
+use Rattle.common.specs.Words.{ℕ, zero, suc, arith, Bool, true, false, cond, List, ⊎_elim, refl, eqb, leb, eqb-true, leb-true}
 use Rattle.common.specs.Tests.{clash, both}
 use Rattle.plain.specs.Plain.{lower, two, string_by, annex_rest, step, brace, begun, step_of}
 use Rattle.plain.specs.Case.{lower_cases}

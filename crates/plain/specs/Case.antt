@@ -1,11 +1,7 @@
 -- Letter case does not count: a text with every letter in lower case gives the same plain text. A plain text is as long as its text.
-use Rattle.std.specs.Prelude.{◌+◌, ◌<◌, ◌≤◌, ◌&&◌, ◌∷◌}
-use Rattle.common.specs.Words.{ℕ, zero, suc, arith, Bool, true, false, List, []}
-use Rattle.std.specs.Prelude.{◌⊎◌, ◌≡◌}
-use Rattle.common.specs.Words.{map, inl, inr, ⊎_elim, refl}
-use Rattle.common.specs.Words.{sym, ap, ◌∙◌, eqb, leb, length, get_or, drop, ne_eqb, leb-true, lt-leb}
-use Rattle.std.specs.Prelude.{◌||◌}
-use Rattle.common.specs.Words.{ltb, ltb-true}
+use Rattle.std.specs.Prelude.{◌+◌, ◌<◌, ◌≤◌, ◌&&◌, ◌∷◌, ◌⊎◌, ◌≡◌, ◌||◌}
+use Rattle.common.specs.Words.{ℕ, zero, suc, arith, Bool, true, false, List, [], map, inl, inr, ⊎_elim, refl, sym, ap, ◌∙◌, eqb, leb}
+use Rattle.common.specs.Words.{length, get_or, drop, ne_eqb, leb-true, lt-leb, ltb, ltb-true}
 use Rattle.common.specs.Tests.{true_or_false, both}
 use Rattle.std.proofs.Math.Bool.{and-false}
 use Rattle.std.proofs.lemmas.List.{length-map}

@@ -1,13 +1,9 @@
 -- Laws of the plain text at the code's places: how a string goes on, that behind the last `**}` no annex is closed, and how the plain text
 -- is filled from the front.
-use Rattle.std.specs.Prelude.{◌+◌, ◌-◌, ◌<◌, ◌≤◌, ◌&&◌}
-use Rattle.common.specs.Words.{ℕ, zero, suc, arith, add-one, Bool, true, false, cond, not, List, []}
-use Rattle.std.specs.Prelude.{◌∷◌, ◌++◌}
-use Rattle.std.specs.Prelude.{◌≡◌}
-use Rattle.common.specs.Words.{append_assoc, append-nil, refl, sym, ap, ◌∙◌, eqb, length, get_or, drop, take, set, drop-cons}
-use Rattle.common.specs.Words.{drop-drop}
-use Rattle.common.specs.Words.{drop_of_length-le, get_or-drop, ⊎_elim, eq-or-lt_of_le, le_of_suc-le-suc, take-suc-set, take_all, eq-eqb, ne_eqb}
-use Rattle.common.specs.Words.{eqb-true, not-true}
+use Rattle.std.specs.Prelude.{◌+◌, ◌-◌, ◌<◌, ◌≤◌, ◌&&◌, ◌∷◌, ◌++◌, ◌≡◌}
+use Rattle.common.specs.Words.{ℕ, zero, suc, arith, add-one, Bool, true, false, cond, not, List, [], append_assoc, append-nil, refl, sym, ap}
+use Rattle.common.specs.Words.{◌∙◌, eqb, length, get_or, drop, take, set, drop-cons, drop-drop, drop_of_length-le, get_or-drop, ⊎_elim}
+use Rattle.common.specs.Words.{eq-or-lt_of_le, le_of_suc-le-suc, take-suc-set, take_all, eq-eqb, ne_eqb, eqb-true, not-true}
 use Rattle.common.specs.Tests.{clash, both}
 use Rattle.plain.specs.declared.Step.{Step}
 use Rattle.plain.specs.Plain.{two, three, string_by, close_by, annex_rest, step, begun, step_of, plain_by}

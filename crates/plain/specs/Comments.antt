@@ -1,9 +1,7 @@
 -- Comments do not count: a text whose comments are overwritten by blanks gives the same plain text.
-use Rattle.std.specs.Prelude.{◌+◌, ◌-◌, ◌<◌, ◌≤◌}
-use Rattle.common.specs.Words.{ℕ, zero, suc, arith, Bool, true, false, cond, List, []}
-use Rattle.std.specs.Prelude.{◌∷◌, ◌⊎◌, ◌≡◌}
-use Rattle.common.specs.Words.{inl, inr, ⊎_elim, refl}
-use Rattle.common.specs.Words.{sym, ap, ◌∙◌, eqb, length, get_or, drop, eqb-true, eq-zero-or-pos}
+use Rattle.std.specs.Prelude.{◌+◌, ◌-◌, ◌<◌, ◌≤◌, ◌∷◌, ◌⊎◌, ◌≡◌}
+use Rattle.common.specs.Words.{ℕ, zero, suc, arith, Bool, true, false, cond, List, [], inl, inr, ⊎_elim, refl, sym, ap, ◌∙◌, eqb, length}
+use Rattle.common.specs.Words.{get_or, drop, eqb-true, eq-zero-or-pos}
 use Rattle.common.specs.Tests.{clash, both}
 use Rattle.plain.specs.Plain.{lower, two, three, string_by, close_by, annex_rest, brace, begun, step_of, plain_by, mark_rest, plain_of}
 use Rattle.plain.specs.Begun.{Begins, begins, begun_comment, begun_quote, begun_annex, begun_other, begun_space, begun_line}

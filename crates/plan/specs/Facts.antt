@@ -1,9 +1,6 @@
 -- Rules 1, 2, 3 and 9 and the sizes and places of rule 7 in plain facts: each test of Rules passes exactly when its facts hold.
 use Rattle.std.specs.Prelude.{◌<◌, ◌≤◌, ◌&&◌, ◌↔◌, ◌≡◌}
-use Rattle.common.specs.Words.{ℕ, Bool, true, false, refl, leb, ltb, eqb, ltb-true, lt-ltb}
-use Rattle.common.specs.Words.{leb-true, le-leb}
-use Rattle.common.specs.Words.{eqb-true}
-use Rattle.common.specs.Words.{eq-eqb}
+use Rattle.common.specs.Words.{ℕ, Bool, true, false, refl, leb, ltb, eqb, ltb-true, lt-ltb, leb-true, le-leb, eqb-true, eq-eqb}
 use Rattle.common.specs.Tests.{clash, both, and_iff}
 use Rattle.common.proofs.Rows.{every_iff, some, some_iff}
 use Rattle.model.specs.Model.{Sender}

@@ -2,9 +2,9 @@
 use Rattle.std.specs.Prelude.{◌∷◌, ◌⊎◌, ◌≡◌}
 use Rattle.common.specs.Words.{ℕ, Bool, true, false, cond, List, []}
 use Rattle.plan.specs.declared.refusal.Rule.{Rule}
-use Rattle.plan.specs.declared.refusal.Rule.TheVariants.{TaskOrQueueCount, PeriodOrDeadline, ReceiverOrSender, HyperperiodTooLong}
-use Rattle.plan.specs.declared.refusal.Rule.TheVariants.{TooManyMessages, TooManySlots, UnsoundPlan, ShortMemory, NoSuchSender}
-use Rattle.plan.specs.declared.refusal.Rule.TheVariants.{TickBeforeState, PastLastTick, JobOver, SentAlready, PayloadLength, NoSuchNumber}
+use Rattle.plan.specs.declared.refusal.Rule.TheVariants.{TaskOrQueueCount, PeriodOrDeadline, ReceiverOrSender, HyperperiodTooLong, TooManyMessages}
+use Rattle.plan.specs.declared.refusal.Rule.TheVariants.{TooManySlots, UnsoundPlan, ShortMemory, NoSuchSender, TickBeforeState, PastLastTick, JobOver}
+use Rattle.plan.specs.declared.refusal.Rule.TheVariants.{SentAlready, PayloadLength, NoSuchNumber}
 use Rattle.plan.specs.declared.refusal.Refusal.{Refusal}
 use Rattle.plan.specs.declared.refusal.Verdict.{Verdict}
 

@@ -1,7 +1,6 @@
 -- What a sound plan has: rule 7 answers true exactly when these facts hold, and what the crates above use of them.
 use Rattle.std.specs.Prelude.{◌+◌, ◌<◌, ◌≤◌, ◌&&◌, ◌↔◌, ◌≡◌}
-use Rattle.common.specs.Words.{ℕ, arith, Bool, true, false, List, refl, sym, ◌∙◌}
-use Rattle.common.specs.Words.{leb, get_or}
+use Rattle.common.specs.Words.{ℕ, arith, Bool, true, false, List, refl, sym, ◌∙◌, leb, get_or}
 use Rattle.common.specs.Tests.{and_iff, having}
 use Rattle.common.specs.Totals.{sum, sum_next, sum_up}
 use Rattle.common.proofs.Rows.{every, every_iff, every_first_bad}

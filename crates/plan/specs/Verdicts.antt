@@ -2,8 +2,7 @@
 -- call, and its refusal is given. A call's answer, state and memory are each chosen by the same lines, so the verdict on the lines
 -- decides all three.
 use Rattle.std.specs.Prelude.{◌∷◌, ◌++◌, ◌⊎◌, ◌≡◌}
-use Rattle.common.specs.Words.{ℕ, arith, Bool, true, false, cond, List, [], inl, inr, refl, ap}
-use Rattle.common.specs.Words.{◌∙◌}
+use Rattle.common.specs.Words.{ℕ, arith, Bool, true, false, cond, List, [], inl, inr, refl, ap, ◌∙◌}
 use Rattle.plan.specs.Refusals.{Line, judged}
 pub use Rattle.plan.specs.Refusals.{Stopped, verdict}
 use Rattle.plan.specs.declared.refusal.Refusal.{Refusal}

@@ -6,8 +6,8 @@ pub mod refusal; // refusal.rt: the rules that a call can break, and the refusal
 
 ghost use Rattle.std.specs.Prelude.{◌≡◌};
 ghost use Rattle.common.specs.Words.{true};
-ghost use Rattle.plan.specs.Limits.{task_limit, queue_limit, cell_limit, longest_period, longest_hyperperiod, most_messages};
-ghost use Rattle.plan.specs.Limits.{most_slots, last_tick, payload_bytes, slot_bytes};
+ghost use Rattle.plan.specs.Limits.{task_limit, queue_limit, cell_limit, longest_period, longest_hyperperiod, most_messages, most_slots, last_tick};
+ghost use Rattle.plan.specs.Limits.{payload_bytes, slot_bytes};
 ghost use Rattle.plan.specs.Plan.{zeros};
 
 #[derive(Clone, Copy)]

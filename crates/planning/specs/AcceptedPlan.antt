@@ -1,10 +1,7 @@
 -- What an accepted planning has made: a sound plan, its table as handed in with zeros beyond the counts, the least fit sizes, never
 -- above equation 3, and the places as running sums. What a refused one has made: the plan of all zeros.
 use Rattle.std.specs.Prelude.{◌<◌, ◌≤◌, ◌&&◌, ◌++◌, ◌⊎◌, ◌↔◌, ◌≡◌}
-use Rattle.common.specs.Words.{ℕ, arith, Bool, false, List, inl, inr, refl}
-use Rattle.common.specs.Words.{sym, ap, ◌∙◌}
-use Rattle.common.specs.Words.{lt-ltb}
-use Rattle.common.specs.Words.{ltb-false, leb-true, not-false, ltb, get_or}
+use Rattle.common.specs.Words.{ℕ, arith, Bool, false, List, inl, inr, refl, sym, ap, ◌∙◌, lt-ltb, ltb-false, leb-true, not-false, ltb, get_or}
 use Rattle.common.specs.Tests.{and_left}
 use Rattle.common.specs.Totals.{only, sum, sum_ext, sum_at}
 use Rattle.common.specs.Table.{table, table_at}

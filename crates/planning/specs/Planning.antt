@@ -10,8 +10,8 @@ use Rattle.plan.specs.Rules.{counts_good, bad_task, bad_queue, sound_plan}
 use Rattle.plan.specs.Refusals.{Line, ◌gives◌, named, unnamed, judged}
 use Rattle.plan.specs.declared.Plan.{Plan}
 use Rattle.plan.specs.declared.refusal.Refusal.{Refusal}
-use Rattle.plan.specs.declared.refusal.Rule.TheVariants.{TaskOrQueueCount, PeriodOrDeadline, ReceiverOrSender}
-use Rattle.plan.specs.declared.refusal.Rule.TheVariants.{HyperperiodTooLong, TooManyMessages, TooManySlots}
+use Rattle.plan.specs.declared.refusal.Rule.TheVariants.{TaskOrQueueCount, PeriodOrDeadline, ReceiverOrSender, HyperperiodTooLong, TooManyMessages}
+use Rattle.plan.specs.declared.refusal.Rule.TheVariants.{TooManySlots}
 use Rattle.sizing.specs.Cycle.{cycle_short}
 use Rattle.tables.specs.Table.{tabled}
 use Rattle.places.specs.Places.{long_queue, least_size, least_sizes, running_places}

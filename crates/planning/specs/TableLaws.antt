@@ -1,9 +1,7 @@
 -- What the table keeps of its rows: counted rows as they were handed in, zeros beyond. So rules 1 to 3, tested on what was handed in, hold
 -- of the table.
 use Rattle.std.specs.Prelude.{◌+◌, ◌*◌, ◌/◌, ◌%◌, ◌<◌, ◌≤◌, ◌≡◌}
-use Rattle.common.specs.Words.{ℕ, arith, Bool, true, false, List, ⊎_elim, sym}
-use Rattle.common.specs.Words.{◌∙◌, lt-ltb, le-ltb}
-use Rattle.common.specs.Words.{get_or, get_or-eq_default}
+use Rattle.common.specs.Words.{ℕ, arith, Bool, true, false, List, ⊎_elim, sym, ◌∙◌, lt-ltb, le-ltb, get_or, get_or-eq_default}
 use Rattle.common.specs.Tests.{lt_or_le}
 use Rattle.common.specs.Table.{table_at, table_length}
 use Rattle.common.proofs.Rows.{first_bad_same}

@@ -4,8 +4,7 @@ use Rattle.std.specs.Prelude.{◌-◌, ◌<◌, ◌≤◌, ◌≡◌}
 use Rattle.common.specs.Words.{ℕ, ℕ_discrete, true, inr, refl, sym, ap, subst, ◌∙◌}
 use Rattle.common.specs.Tests.{having}
 use Rattle.common.specs.Totals.{sum, only_eq, sum_ext}
-use Rattle.model.specs.Model.{Queue, Valid, Sender, deadline_of, up_to, due_at, precedes, row_followers, followers, number}
-use Rattle.model.specs.Model.{first, last, slots}
+use Rattle.model.specs.Model.{Queue, Valid, Sender, deadline_of, up_to, due_at, precedes, row_followers, followers, number, first, last, slots}
 use Rattle.model.specs.Source.{Ahead}
 use Rattle.model.proofs.Ties.{prec_irrefl, prec_higher, prec_equal, prec_iff}
 use Rattle.model.proofs.Number.{number_less}

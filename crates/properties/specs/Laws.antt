@@ -1,8 +1,7 @@
 -- Laws of the properties that are read: which one stands at a step, what is said of it, and how far the rules go.
 use Rattle.std.specs.Prelude.{◌<◌, ◌≤◌, ◌∷◌, ◌≡◌}
-use Rattle.common.specs.Words.{ℕ, arith, Bool, true, false, true≢false, cond, List, [], refl, sym}
-use Rattle.common.specs.Words.{ap, ◌∙◌, eqb, ltb, get_or, set, eq-eqb, ne_eqb}
-use Rattle.common.specs.Words.{lt-ltb, le-ltb, ltb-true, eqb-true}
+use Rattle.common.specs.Words.{ℕ, arith, Bool, true, false, true≢false, cond, List, [], refl, sym, ap, ◌∙◌, eqb, ltb, get_or, set, eq-eqb}
+use Rattle.common.specs.Words.{ne_eqb, lt-ltb, le-ltb, ltb-true, eqb-true}
 use Rattle.words.specs.Kinds.{SCOPE, BECOMES, SEMICOLON, NONE, OPEN-BRACE, CLOSE-BRACE, PROPERTIES}
 use Rattle.tokens.specs.Tokens.{Token}
 use Rattle.tokens.specs.Laws.{cases}
@@ -11,8 +10,7 @@ use Rattle.steps.specs.Faults.{fault, no_fault, worse, worst}
 use Rattle.steps.specs.Worse.{worst_first}
 use Rattle.steps.specs.Steps.{Step, On, Stop, ◌⟫◌, head, is, named, the, name}
 use Rattle.steps.specs.Lifted.{first, first_kind, second_kind, holds}
-use Rattle.steps.specs.Laws.{Moved, went, stopped, moved_on, moved_then, moved_less, moves_the}
-use Rattle.steps.specs.Laws.{moves_name, is_on, is_off}
+use Rattle.steps.specs.Laws.{Moved, went, stopped, moved_on, moved_then, moved_less, moves_the, moves_name, is_on, is_off}
 use Rattle.values.specs.Values.{value, scoped, association}
 use Rattle.values.specs.Laws.{value_moves, scoped_moves, association_moves}
 use Rattle.phrases.specs.Phrases.{nothing}
@@ -26,10 +24,9 @@ use Rattle.rows.specs.Rows.{Store, with_rows}
 use Rattle.rows.specs.Said.{Said, Rule, quiet, ◌⨟◌}
 use Rattle.rows.specs.States.{State, state, does}
 use Rattle.rows.specs.Laws.{MovesOn, moved_onward, moves_quiet, moves_optionally, moves_repeat, advances_on, by_went, does_then, does_on, does_off}
-use Rattle.properties.specs.Properties.{protocol, offset, priority, timing, another, named_by, set_of, property_by, inner_name}
-use Rattle.properties.specs.Properties.{property_at, of_thread, of_port, of_process, read_in, right_by, form}
-use Rattle.properties.specs.Properties.{second_time, from_outside, owned, note_in, skipped_in, association_in, associations_in}
-use Rattle.properties.specs.Properties.{block_in, maybe_block_in, none_or, properties_in}
+use Rattle.properties.specs.Properties.{protocol, offset, priority, timing, another, named_by, set_of, property_by, inner_name, property_at}
+use Rattle.properties.specs.Properties.{of_thread, of_port, of_process, read_in, right_by, form, second_time, from_outside, owned, note_in}
+use Rattle.properties.specs.Properties.{skipped_in, association_in, associations_in, block_in, maybe_block_in, none_or, properties_in}
 
 -- ## Which property
 

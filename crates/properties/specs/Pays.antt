@@ -9,8 +9,8 @@ use Rattle.steps.specs.Laws.{moves_the}
 use Rattle.phrases.specs.Laws.{nothing_moves}
 use Rattle.rows.specs.Said.{Said, Rule, quiet}
 use Rattle.rows.specs.Pays.{PaidBy, Pays, paid_less, paid_moved, paid_silent, pays_quiet, paid_onward, pays_optionally, pays_repeat}
-use Rattle.properties.specs.Properties.{property_at, read_in, owned, skipped_in, association_in, associations_in, block_in}
-use Rattle.properties.specs.Properties.{maybe_block_in, none_or, properties_in}
+use Rattle.properties.specs.Properties.{property_at, read_in, owned, skipped_in, association_in, associations_in, block_in, maybe_block_in, none_or}
+use Rattle.properties.specs.Properties.{properties_in}
 use Rattle.properties.specs.Laws.{association_in_moves}
 
 pub association_silent : (c : ℕ) (ps : List ℕ) (ts : List Token) → (association_in c ps ts).rows ≡ []

@@ -1,10 +1,8 @@
 -- Promise 1: the first place decides. A refusal (number, place) means that no fault stands at an earlier place and none with a lower number
 -- at the same one; a table means that there is no fault. Number 0 is no fault.
-use Rattle.std.specs.Prelude.{◌<◌, ◌≤◌, ◌∷◌}
-use Rattle.common.specs.Words.{ℕ, zero, suc, arith, pos_of_ne-zero, Bool, true, false, true≢false, cond, List, []}
-use Rattle.std.specs.Prelude.{◌⊎◌, ◌≡◌}
-use Rattle.common.specs.Words.{inl, inr, ⊎_elim, refl, sym, ap, ◌∙◌, eqb, eqb-true, eqb-false, length}
-use Rattle.common.specs.Words.{get_or}
+use Rattle.std.specs.Prelude.{◌<◌, ◌≤◌, ◌∷◌, ◌⊎◌, ◌≡◌}
+use Rattle.common.specs.Words.{ℕ, zero, suc, arith, pos_of_ne-zero, Bool, true, false, true≢false, cond, List, [], inl, inr, ⊎_elim, refl, sym}
+use Rattle.common.specs.Words.{ap, ◌∙◌, eqb, eqb-true, eqb-false, length, get_or}
 use Rattle.common.specs.Tests.{lt_or_le, clash}
 use Rattle.steps.specs.declared.Fault.{Fault}
 use Rattle.steps.specs.Faults.{no_fault, worse, worst}

@@ -1,10 +1,7 @@
 -- Laws of the reader: what ends a reading, what the state after a reading says, and the answer by the least fault.
-use Rattle.std.specs.Prelude.{◌<◌, ◌≤◌, ◌&&◌}
-use Rattle.common.specs.Words.{ℕ, zero, suc, min, arith, ⊎_elim, Bool, true, false, true≢false, List, []}
-use Rattle.std.specs.Prelude.{◌∷◌, ◌++◌}
-use Rattle.std.specs.Prelude.{◌≡◌}
-use Rattle.common.specs.Words.{refl, sym, ap, ◌∙◌, eqb, eq-eqb, ne_eqb, leb, leb-true, ltb, length, length-append, take, take_all}
-use Rattle.common.specs.Words.{length-take-le, get_or, get_or-replicate}
+use Rattle.std.specs.Prelude.{◌<◌, ◌≤◌, ◌&&◌, ◌∷◌, ◌++◌, ◌≡◌}
+use Rattle.common.specs.Words.{ℕ, zero, suc, min, arith, ⊎_elim, Bool, true, false, true≢false, List, [], refl, sym, ap, ◌∙◌, eqb, eq-eqb}
+use Rattle.common.specs.Words.{ne_eqb, leb, leb-true, ltb, length, length-append, take, take_all, length-take-le, get_or, get_or-replicate}
 use Rattle.common.specs.Tests.{lt_or_le}
 use Rattle.plain.specs.Plain.{plain_of}
 use Rattle.plain.specs.Case.{plain_length}
@@ -31,8 +28,8 @@ use Rattle.findings.specs.declared.Answer.TheVariants.{Sound, Refused, NoRoom}
 use Rattle.findings.specs.declared.Read.{Read}
 use Rattle.findings.specs.declared.Table.{Table}
 use Rattle.findings.specs.Findings.{no_table, answered}
-use Rattle.reader.specs.Reader.{most_bytes, most_rows, tree_room, rows_room, plain_text, read_from, end_faults, long_faults}
-use Rattle.reader.specs.Reader.{faults_in, refusal, answer_by, answer_read, answer_plain, read_of, enough, answer, Fitting}
+use Rattle.reader.specs.Reader.{most_bytes, most_rows, tree_room, rows_room, plain_text, read_from, end_faults, long_faults, faults_in, refusal}
+use Rattle.reader.specs.Reader.{answer_by, answer_read, answer_plain, read_of, enough, answer, Fitting}
 use Rattle.reader.specs.StoredRows.{Held, stored_held}
 
 -- ## What ends a reading

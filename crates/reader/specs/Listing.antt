@@ -1,13 +1,12 @@
 -- Promise 5: Listing 1 of source 000, as printed less its line numbers, gives Table A. The definitions compute it.
 use Rattle.std.specs.Prelude.{◌∷◌, ◌++◌, ◌≡◌}
 use Rattle.common.specs.Words.{ℕ, true, false, List, [], refl, replicate}
-use Rattle.words.specs.Letters.{letters}
+use Rattle.words.specs.Letters.{letters, words_by, same}
 use Rattle.findings.specs.declared.Answer.TheVariants.{Sound}
 use Rattle.findings.specs.declared.Table.{Table}
 use Rattle.findings.specs.Findings.{rule_of, answered}
 use Rattle.common.specs.Table.{table}
 use Rattle.words.specs.Found.{sum_by, number_by, padded}
-use Rattle.words.specs.Letters.{words_by, same}
 use Rattle.words.specs.Words.{listed, rank, kind_of}
 use Rattle.plain.specs.Plain.{lower, two, three, string_by, close_by, annex_rest, begun, step_of, plain_by, mark_rest, plain_of}
 use Rattle.tokens.specs.Spots.{behind}
@@ -23,8 +22,7 @@ use Rattle.rows.specs.Said.{optionally, repeat_by, repeat, merged, apart, adding
 use Rattle.times.specs.Times.{with_byte, with_bytes, filled, time_of, time}
 use Rattle.times.specs.Priorities.{priority_of, priority}
 use Rattle.properties.specs.Properties.{named_by, set_of, property_by, property_at, read_in, right_by, form, owned, note_in, skipped_in}
-use Rattle.properties.specs.Properties.{association_in}
-use Rattle.properties.specs.Properties.{associations_in, block_in, maybe_block_in, none_or, properties_in}
+use Rattle.properties.specs.Properties.{association_in, associations_in, block_in, maybe_block_in, none_or, properties_in}
 use Rattle.features.specs.Features.{direction_of, port_head, port, other_feature, feature_of, feature, features}
 use Rattle.threads.specs.Threads.{type_in, implementation_in, thread_of, thread, other_component, subcomponent_of, subcomponent, subcomponents}
 use Rattle.links.specs.Links.{ends, timing_by, declared, link, other_kind, connection_of, label_in, connection, connection_kind, connections}

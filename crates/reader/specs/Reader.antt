@@ -1,8 +1,6 @@
 -- AADL.md, section 6: a text's faults, and what it is answered with.
-use Rattle.std.specs.Prelude.{◌+◌, ◌*◌, ◌^◌, ◌<◌, ◌≤◌, ◌&&◌, ◌∷◌}
-use Rattle.common.specs.Words.{ℕ, Bool, cond, List, []}
-use Rattle.std.specs.Prelude.{◌++◌}
-use Rattle.common.specs.Words.{eqb, ltb, leb, length, take}
+use Rattle.std.specs.Prelude.{◌+◌, ◌*◌, ◌^◌, ◌<◌, ◌≤◌, ◌&&◌, ◌∷◌, ◌++◌}
+use Rattle.common.specs.Words.{ℕ, Bool, cond, List, [], eqb, ltb, leb, length, take}
 use Rattle.plain.specs.Plain.{plain_of}
 use Rattle.tokens.specs.Tokens.{from}
 use Rattle.steps.specs.declared.Fault.{Fault}

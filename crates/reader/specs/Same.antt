@@ -1,7 +1,6 @@
 -- Promises 2 and 3: letter case makes no difference, nor do comments but to places.
 use Rattle.std.specs.Prelude.{◌≤◌, ◌∷◌, ◌≡◌}
-use Rattle.common.specs.Words.{ℕ, zero, suc, List, [], map, refl, ap, ◌∙◌, sym, ltb, length, take, take_all}
-use Rattle.common.specs.Words.{arith}
+use Rattle.common.specs.Words.{ℕ, zero, suc, List, [], map, refl, ap, ◌∙◌, sym, ltb, length, take, take_all, arith}
 use Rattle.plain.specs.Plain.{lower, plain_of}
 use Rattle.plain.specs.Case.{plain_lower, lower_length}
 use Rattle.plain.specs.Comments.{blanked, blanked_length, comments_blank}

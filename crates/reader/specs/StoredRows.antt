@@ -1,8 +1,7 @@
 -- Rows that are kept in memory with room for all of them are there afterwards, in their order.
-use Rattle.std.specs.Prelude.{◌+◌, ◌*◌, ◌≤◌, ◌<◌, ◌∷◌, ◌++◌}
-use Rattle.common.specs.Words.{ℕ, arith, true, List, [], append-nil, append_assoc}
-use Rattle.std.specs.Prelude.{◌≡◌}
-use Rattle.common.specs.Words.{refl, sym, ap, ◌∙◌, inl, le-leb, length, length-sets, sets, ext_get_or}
+use Rattle.std.specs.Prelude.{◌+◌, ◌*◌, ◌≤◌, ◌<◌, ◌∷◌, ◌++◌, ◌≡◌}
+use Rattle.common.specs.Words.{ℕ, arith, true, List, [], append-nil, append_assoc, refl, sym, ap, ◌∙◌, inl, le-leb, length, length-sets, sets}
+use Rattle.common.specs.Words.{ext_get_or}
 use Rattle.common.specs.Stores.{part, part_same, part_other}
 use Rattle.rows.specs.Rows.{Row, row_words, Store, store, with_row, with_rows}
 use Rattle.rows.specs.Wide.{wide, wide_first}

@@ -10,8 +10,7 @@ ghost use Rattle.ways.specs.Ways.{Known};
 ghost use Rattle.verdict.specs.Verdict.{judged};
 ghost use Rattle.findings.specs.declared.Answer.TheVariants.{Refused};
 ghost use Rattle.findings.specs.Findings.{no_table, answered};
-ghost use Rattle.reader.specs.Reader.{most_bytes, end_faults, long_faults, refusal, plain_text, answer_read, answer_plain, enough};
-ghost use Rattle.reader.specs.Reader.{Fitting, Prepared};
+ghost use Rattle.reader.specs.Reader.{most_bytes, end_faults, long_faults, refusal, plain_text, answer_read, answer_plain, enough, Fitting, Prepared};
 ghost use Rattle.reader.specs.Unique.{ReadGives};
 
 use findings::{Answer, Read, Refusal, TOO_LONG, no_table, rule_of};

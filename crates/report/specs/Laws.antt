@@ -1,9 +1,7 @@
 -- Points behind bytes.
-use Rattle.std.specs.Prelude.{◌+◌, ◌≤◌, ◌<◌}
-use Rattle.common.specs.Words.{ℕ, min, arith, add-one, Bool, true, false, cond, eqb, leb, leb-true, leb-false}
-use Rattle.std.specs.Prelude.{◌∷◌, ◌++◌, ◌≡◌}
-use Rattle.common.specs.Words.{List, [], length, get_or, take, take-suc, take_all, length-take, refl, ◌∙◌, sym}
-use Rattle.common.specs.Words.{ap}
+use Rattle.std.specs.Prelude.{◌+◌, ◌≤◌, ◌<◌, ◌∷◌, ◌++◌, ◌≡◌}
+use Rattle.common.specs.Words.{ℕ, min, arith, add-one, Bool, true, false, cond, eqb, leb, leb-true, leb-false, List, [], length, get_or, take}
+use Rattle.common.specs.Words.{take-suc, take_all, length-take, refl, ◌∙◌, sym, ap}
 use Rattle.report.specs.declared.found.Point.{Point}
 use Rattle.report.specs.Places.{past, first, behind}
 

@@ -1,10 +1,6 @@
 -- Laws of rules that say more: what is done in a row, by a choice, again and again, with properties of its own.
-use Rattle.std.specs.Prelude.{◌+◌, ◌<◌}
-use Rattle.common.specs.Words.{ℕ, zero, suc, arith, Bool, true, false, true≢false, cond}
-use Rattle.std.specs.Prelude.{◌∷◌, ◌++◌}
-use Rattle.common.specs.Words.{List, []}
-use Rattle.std.specs.Prelude.{◌≡◌}
-use Rattle.common.specs.Words.{refl, sym, ◌∙◌, length}
+use Rattle.std.specs.Prelude.{◌+◌, ◌<◌, ◌∷◌, ◌++◌, ◌≡◌}
+use Rattle.common.specs.Words.{ℕ, zero, suc, arith, Bool, true, false, true≢false, cond, List, [], refl, sym, ◌∙◌, length}
 use Rattle.tokens.specs.Tokens.{Token}
 use Rattle.tokens.specs.Laws.{cases}
 use Rattle.steps.specs.declared.Fault.{Fault}

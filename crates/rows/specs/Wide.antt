@@ -1,8 +1,7 @@
 -- Every row that is declared has all its columns, and its Priority, where it has one, is at most 255.
-use Rattle.std.specs.Prelude.{◌≤◌, ◌∷◌, ◌++◌, ◌≡◌}
-use Rattle.common.specs.Words.{ℕ, zero, suc, arith, Bool, true, false, true≢false, List, [], refl, sym}
-use Rattle.std.specs.Prelude.{◌&&◌}
-use Rattle.common.specs.Words.{cond, eqb, eqb-true, eq-eqb, leb, leb-true, le-leb, length, get_or}
+use Rattle.std.specs.Prelude.{◌≤◌, ◌∷◌, ◌++◌, ◌≡◌, ◌&&◌}
+use Rattle.common.specs.Words.{ℕ, zero, suc, arith, Bool, true, false, true≢false, List, [], refl, sym, cond, eqb, eqb-true, eq-eqb, leb}
+use Rattle.common.specs.Words.{leb-true, le-leb, length, get_or}
 use Rattle.common.specs.Table.{table_at}
 use Rattle.tokens.specs.Tokens.{Token}
 use Rattle.tokens.specs.Laws.{cases}

@@ -1,9 +1,7 @@
 -- What an answer allows. Where a send stored its message, its job can be recorded in a state: queue and task have an entry, and the job can
 -- be counted on. Where a look names a number, that can be counted on too, and its queue is there to be stepped on.
 use Rattle.std.specs.Prelude.{◌*◌, ◌/◌, ◌<◌, ◌≤◌, ◌≡◌}
-use Rattle.common.specs.Words.{ℕ, div-le_self, arith, Bool, true, false, cond, List, refl, sym}
-use Rattle.common.specs.Words.{◌∙◌, get_or, ltb}
-use Rattle.common.specs.Words.{eqb, ltb-false}
+use Rattle.common.specs.Words.{ℕ, div-le_self, arith, Bool, true, false, cond, List, refl, sym, ◌∙◌, get_or, ltb, eqb, ltb-false}
 use Rattle.model.specs.Model.{last, sender_of}
 use Rattle.calendar.specs.Calendar.{message, slot}
 use Rattle.plan.specs.Limits.{task_limit, queue_limit, last_tick, payload_bytes}

@@ -1,12 +1,10 @@
 -- `horizon`, `need` and `row_slots` of the model, over columns that have no receiver: two numbers stand in its place, its period, here
 -- `chart`, and how long its messages are wanted. With a plan's own columns and numbers they are those of its queue.
 use Rattle.std.specs.Prelude.{◌+◌, ◌-◌, ◌/◌, ◌<◌, ◌≤◌, ◌≡◌}
-use Rattle.common.specs.Words.{ℕ, div-mul-le_self, div-eq_of_lt-le, lt-div-mul-add, arith}
-use Rattle.common.specs.Words.{refl}
-use Rattle.common.specs.Words.{ap}
+use Rattle.common.specs.Words.{ℕ, div-mul-le_self, div-eq_of_lt-le, lt-div-mul-add, arith, refl, ap}
 use Rattle.common.specs.Totals.{most}
-use Rattle.model.specs.Model.{Queue, released, release_of, deadline_of, due_at, precedes, up_to, followers, number}
-use Rattle.model.specs.Model.{receiver_period, wanted_for, horizon, outdated, need, row_slots}
+use Rattle.model.specs.Model.{Queue, released, release_of, deadline_of, due_at, precedes, up_to, followers, number, receiver_period, wanted_for}
+use Rattle.model.specs.Model.{horizon, outdated, need, row_slots}
 use Rattle.plan.specs.Plan.{queue_at}
 use Rattle.plan.specs.declared.Plan.{Plan}
 use Rattle.counting.specs.Columns.{number_due, plan_ordered}

@@ -1,11 +1,9 @@
 -- What is read from a memory after a message was stored in it, or after its slots were cleared: laws of `stored` and `cleared`, over the
 -- payload's width w. They lean on the laws of a run of stores (common's Stores).
-use Rattle.std.specs.Prelude.{◌≡◌, ◌⊎◌, ◌∷◌, ◌++◌, ◌+◌, ◌*◌}
-use Rattle.common.specs.Words.{refl, sym, ◌∙◌, inl, inr, ⊎_elim, List, [], ℕ}
-use Rattle.std.specs.Prelude.{◌/◌, ◌%◌, ◌≤◌, ◌<◌, ◌^◌}
-use Rattle.common.specs.Words.{add-zero}
-use Rattle.common.specs.Words.{div-add-mod', div-div-eq-div-mul, mul-le-mul_right, arith, lit<, length, get_or, drop, replicate, length-append}
-use Rattle.common.specs.Words.{length-drop, length-replicate, get_or-replicate, get_or-append, sets, length-sets, drop_at, drop-set-lt}
+use Rattle.std.specs.Prelude.{◌≡◌, ◌⊎◌, ◌∷◌, ◌++◌, ◌+◌, ◌*◌, ◌/◌, ◌%◌, ◌≤◌, ◌<◌, ◌^◌}
+use Rattle.common.specs.Words.{refl, sym, ◌∙◌, inl, inr, ⊎_elim, List, [], ℕ, add-zero, div-add-mod', div-div-eq-div-mul, mul-le-mul_right}
+use Rattle.common.specs.Words.{arith, lit<, length, get_or, drop, replicate, length-append, length-drop, length-replicate, get_or-replicate}
+use Rattle.common.specs.Words.{get_or-append, sets, length-sets, drop_at, drop-set-lt}
 use Rattle.common.specs.Tests.{lt_or_le}
 use Rattle.common.specs.Stores.{sets_in, sets_before, sets_after, sets_append, part_same, part_other}
 use Rattle.slots.specs.Slots.{bytes_of, joined, number_from, slot_at, number_in, payload_in, stored, cleared}

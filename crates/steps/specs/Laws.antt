@@ -1,9 +1,7 @@
 -- Laws of rules: rules in a row, choices and loops as the code takes them, and that a rule goes on by as many tokens as it reads.
-use Rattle.std.specs.Prelude.{◌+◌, ◌<◌, ◌≤◌}
-use Rattle.common.specs.Words.{ℕ, zero, suc, arith, Bool, true, false, true≢false, cond, List}
-use Rattle.std.specs.Prelude.{◌∷◌, ◌≡◌}
-use Rattle.common.specs.Words.{[], refl, sym, ap, ◌∙◌}
-use Rattle.common.specs.Words.{eqb, eqb-true, leb-true, eq-eqb, ne_eqb, length, drop, drop-drop, length-drop}
+use Rattle.std.specs.Prelude.{◌+◌, ◌<◌, ◌≤◌, ◌∷◌, ◌≡◌}
+use Rattle.common.specs.Words.{ℕ, zero, suc, arith, Bool, true, false, true≢false, cond, List, [], refl, sym, ap, ◌∙◌, eqb, eqb-true}
+use Rattle.common.specs.Words.{leb-true, eq-eqb, ne_eqb, length, drop, drop-drop, length-drop}
 use Rattle.words.specs.Words.{is_name, first_name}
 use Rattle.words.specs.Letters.{same}
 use Rattle.words.specs.Kinds.{ENDED, THREAD, PORT, ARROW, DELAYING}

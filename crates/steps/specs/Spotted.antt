@@ -1,7 +1,6 @@
 -- The rules of one token at a token that the code has found.
 use Rattle.std.specs.Prelude.{◌-◌, ◌<◌, ◌≤◌, ◌≡◌}
-use Rattle.common.specs.Words.{ℕ, arith, Bool, false, cond, List, length, ap, eq-eqb, ne_eqb, le-leb}
-use Rattle.common.specs.Words.{lt-leb}
+use Rattle.common.specs.Words.{ℕ, arith, Bool, false, cond, List, length, ap, eq-eqb, ne_eqb, le-leb, lt-leb}
 use Rattle.words.specs.Words.{first_name, NAME}
 use Rattle.words.specs.Kinds.{ENDED}
 use Rattle.common.specs.Stores.{part, part_length}

@@ -1,16 +1,14 @@
 -- Tokens weigh no more than the bytes that they stand in.
-use Rattle.std.specs.Prelude.{◌+◌, ◌-◌, ◌%◌, ◌<◌, ◌≤◌, ◌&&◌, ◌∷◌}
-use Rattle.common.specs.Words.{ℕ, zero, suc, arith, Bool, true, false, List, []}
-use Rattle.std.specs.Prelude.{◌≡◌}
-use Rattle.common.specs.Words.{refl, mod-lt}
-use Rattle.common.specs.Words.{eqb, leb, leb-true, ne_eqb, length, take, drop, get_or, length-drop, length-take-le}
+use Rattle.std.specs.Prelude.{◌+◌, ◌-◌, ◌%◌, ◌<◌, ◌≤◌, ◌&&◌, ◌∷◌, ◌≡◌}
+use Rattle.common.specs.Words.{ℕ, zero, suc, arith, Bool, true, false, List, [], refl, mod-lt, eqb, leb, leb-true, ne_eqb, length, take, drop}
+use Rattle.common.specs.Words.{get_or, length-drop, length-take-le}
 use Rattle.common.specs.Tests.{and_left, and_right}
 use Rattle.words.specs.Letters.{words_by, same, same_eq}
 use Rattle.words.specs.Words.{listed, rank, first_word, NAME, kind_of}
 use Rattle.words.specs.Kinds.{ENDED, THREAD, PORT, NUMBER, BECOMES, ADDS, ARROW, DELAYING, BOTH-WAYS, SCOPE, DOTS}
 use Rattle.tokens.specs.declared.Shape.{Shape}
-use Rattle.tokens.specs.Tokens.{Token, sort_of, run, blank, letter, digit, shape, word_shape, number_width, one_of, sign_shape}
-use Rattle.tokens.specs.Tokens.{shape_of, none, tokens_by, from}
+use Rattle.tokens.specs.Tokens.{Token, sort_of, run, blank, letter, digit, shape, word_shape, number_width, one_of, sign_shape, shape_of, none}
+use Rattle.tokens.specs.Tokens.{tokens_by, from}
 use Rattle.tokens.specs.Laws.{either, cases, run_le, shape_width, shape_fits, some_length}
 use Rattle.steps.specs.Laws.{weight_of, weight}
 

@@ -1,8 +1,6 @@
 -- Laws of the least fault: it is one of those that it is taken from, none of them lies before it, and it does not matter how they are grouped.
-use Rattle.std.specs.Prelude.{◌<◌, ◌≤◌, ◌∷◌}
-use Rattle.common.specs.Words.{arith, Bool, true, false, true≢false, pos_of_ne-zero, cond, List, []}
-use Rattle.std.specs.Prelude.{◌⊎◌, ◌≡◌}
-use Rattle.common.specs.Words.{inl, inr, ⊎_elim, refl, sym, ap, ◌∙◌}
+use Rattle.std.specs.Prelude.{◌<◌, ◌≤◌, ◌∷◌, ◌⊎◌, ◌≡◌}
+use Rattle.common.specs.Words.{arith, Bool, true, false, true≢false, pos_of_ne-zero, cond, List, [], inl, inr, ⊎_elim, refl, sym, ap, ◌∙◌}
 use Rattle.common.specs.Words.{eqb, ltb, lt-ltb, le-ltb, eq-eqb, ne_eqb, eqb-true, eqb-false, ltb-true, ltb-false}
 use Rattle.common.specs.Tests.{lt_or_le, true_or_false, clash}
 use Rattle.steps.specs.declared.Fault.{Fault}

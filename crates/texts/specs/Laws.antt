@@ -18,9 +18,8 @@ use Rattle.declarations.specs.Declarations.{thread_type, thread_implementation, 
 use Rattle.declarations.specs.Laws.{thread_type_moves, thread_implementation_moves, process_moves}
 use Rattle.others.specs.Others.{other_kind, path_end, other}
 use Rattle.others.specs.Laws.{path_end_moves, other_moves}
-use Rattle.texts.specs.Texts.{declaration_kind, thread_by, chosen, declaration, none_or_some, clause_kind, clause, part_kind}
-use Rattle.texts.specs.Texts.{part, begins_part, parts}
-use Rattle.texts.specs.Texts.{package_head, packaged, piece_kind, piece, begins_piece, pieces, a_declaration, finished, whole_text}
+use Rattle.texts.specs.Texts.{declaration_kind, thread_by, chosen, declaration, none_or_some, clause_kind, clause, part_kind, part, begins_part}
+use Rattle.texts.specs.Texts.{parts, package_head, packaged, piece_kind, piece, begins_piece, pieces, a_declaration, finished, whole_text}
 
 -- ## Which part or piece begins
 

@@ -15,8 +15,8 @@ use Rattle.declarations.specs.Pays.{thread_type_pays, thread_implementation_pays
 use Rattle.others.specs.Others.{path_end}
 use Rattle.others.specs.Laws.{path_end_moves}
 use Rattle.others.specs.Pays.{other_pays}
-use Rattle.texts.specs.Texts.{thread_by, chosen, declaration, none_or_some, clause_kind, clause}
-use Rattle.texts.specs.Texts.{part, begins_part, parts, package_head, packaged, piece, begins_piece, pieces, finished, whole_text}
+use Rattle.texts.specs.Texts.{thread_by, chosen, declaration, none_or_some, clause_kind, clause, part, begins_part, parts, package_head, packaged}
+use Rattle.texts.specs.Texts.{piece, begins_piece, pieces, finished, whole_text}
 
 -- ## Declarations
 

@@ -9,8 +9,8 @@ use Rattle.rows.specs.Wide.{Wide, WideOn, wide_silent, wide_quiet, wide_onward, 
 use Rattle.declarations.specs.Wide.{thread_type_wide, thread_implementation_wide, process_wide}
 use Rattle.others.specs.Others.{outside_kind, passing, path_end, other}
 use Rattle.others.specs.Pays.{passing_silent}
-use Rattle.texts.specs.Texts.{thread_by, chosen, declaration, clause_kind}
-use Rattle.texts.specs.Texts.{part, begins_part, parts, package_head, packaged, piece, begins_piece, pieces, finished, whole_text}
+use Rattle.texts.specs.Texts.{thread_by, chosen, declaration, clause_kind, part, begins_part, parts, package_head, packaged, piece, begins_piece}
+use Rattle.texts.specs.Texts.{pieces, finished, whole_text}
 
 other_wide : WideOn other
 unfolding other

@@ -7,8 +7,8 @@ ghost use Rattle.words.specs.Kinds.{PROCESS, IMPLEMENTATION};
 ghost use Rattle.steps.specs.Steps.{◌⟫◌};
 ghost use Rattle.steps.specs.Lifted.{lift};
 ghost use Rattle.rows.specs.States.{state_of, does, begun};
-ghost use Rattle.texts.specs.Texts.{declaration_kind, thread_by, chosen, declaration, none_or_some, clause_kind, clause};
-ghost use Rattle.texts.specs.Texts.{part_kind, part, parts, packaged, piece_kind, piece, pieces, finished, whole_text};
+ghost use Rattle.texts.specs.Texts.{declaration_kind, thread_by, chosen, declaration, none_or_some, clause_kind, clause, part_kind, part, parts};
+ghost use Rattle.texts.specs.Texts.{packaged, piece_kind, piece, pieces, finished, whole_text};
 
 use declarations::{process_implementation, thread_implementation, thread_type};
 use others::{begins_other, other, path_end};

@@ -7,8 +7,7 @@ use Rattle.words.specs.Kinds.{ENDED, NUMBER, SEMICOLON, END, MS, SEC}
 use Rattle.tokens.specs.Tokens.{Token, token}
 use Rattle.steps.specs.Faults.{fault}
 use Rattle.steps.specs.Steps.{On, Stop}
-use Rattle.times.specs.Times.{with_byte, with_bytes, filled, most, Formed, formed, odd, valued}
-use Rattle.times.specs.Times.{not_whole, unit_unknown, unit_missing, time_of, time}
+use Rattle.times.specs.Times.{with_byte, with_bytes, filled, most, Formed, formed, odd, valued, not_whole, unit_unknown, unit_missing, time_of, time}
 use Rattle.times.specs.Priorities.{a_priority, priority_of, priority}
 
 -- a number in milliseconds and in seconds

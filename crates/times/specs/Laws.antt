@@ -1,11 +1,8 @@
 -- Laws of times: sums that stop at the most are the exact ones as far as the most, the forms that the code reads are those of the definition,
 -- and a time goes on by a token at least.
-use Rattle.std.specs.Prelude.{◌+◌, ◌-◌, ◌<◌, ◌≤◌, ◌&&◌}
-use Rattle.common.specs.Words.{ℕ, zero, suc, min, arith, Bool, true, false, cond, List, []}
-use Rattle.std.specs.Prelude.{◌∷◌}
-use Rattle.common.specs.Words.{drop}
-use Rattle.std.specs.Prelude.{◌≡◌}
-use Rattle.common.specs.Words.{refl, sym, ap, ◌∙◌, eqb, eqb-true, leb-true, eq-eqb, ne_eqb, le-leb, lt-leb}
+use Rattle.std.specs.Prelude.{◌+◌, ◌-◌, ◌<◌, ◌≤◌, ◌&&◌, ◌∷◌, ◌≡◌}
+use Rattle.common.specs.Words.{ℕ, zero, suc, min, arith, Bool, true, false, cond, List, [], drop, refl, sym, ap, ◌∙◌, eqb, eqb-true, leb-true}
+use Rattle.common.specs.Words.{eq-eqb, ne_eqb, le-leb, lt-leb}
 use Rattle.common.specs.Stores.{part}
 use Rattle.words.specs.Words.{is_name, first_name}
 use Rattle.words.specs.Kinds.{ENDED, NUMBER, MS, SEC}
@@ -20,8 +17,8 @@ use Rattle.steps.specs.Steps.{Step, On, head, next, any}
 use Rattle.steps.specs.Lifted.{lift}
 use Rattle.steps.specs.Laws.{Moved, stopped, moved_any, moved_then, moves_any}
 use Rattle.times.specs.declared.Sum.{Sum}
-use Rattle.times.specs.Times.{sum, with_digit, with_byte, with_bytes, tenfold, filled, most}
-use Rattle.times.specs.Times.{Formed, odd, not_whole, unit_unknown, unit_missing, time_of, time}
+use Rattle.times.specs.Times.{sum, with_digit, with_byte, with_bytes, tenfold, filled, most, Formed, odd, not_whole, unit_unknown, unit_missing}
+use Rattle.times.specs.Times.{time_of, time}
 use Rattle.times.specs.Sums.{grown, counted, Forms, form_from, unformed, odd_at}
 
 -- ## Sums that stop at the most

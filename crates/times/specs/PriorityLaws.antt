@@ -1,8 +1,7 @@
 -- Laws of priorities: the form that the code reads is that of the definition, a priority goes on by a token, and none is over 255.
-use Rattle.std.specs.Prelude.{◌+◌, ◌-◌, ◌<◌, ◌≤◌}
-use Rattle.common.specs.Words.{ℕ, min, arith, true, false, List}
-use Rattle.std.specs.Prelude.{◌≡◌}
-use Rattle.common.specs.Words.{refl, sym, ap, ◌∙◌, eqb, eqb-true, leb, leb-true, eq-eqb, ne_eqb, le-leb, lt-leb}
+use Rattle.std.specs.Prelude.{◌+◌, ◌-◌, ◌<◌, ◌≤◌, ◌≡◌}
+use Rattle.common.specs.Words.{ℕ, min, arith, true, false, List, refl, sym, ap, ◌∙◌, eqb, eqb-true, leb, leb-true, eq-eqb, ne_eqb, le-leb}
+use Rattle.common.specs.Words.{lt-leb}
 use Rattle.common.specs.Stores.{part}
 use Rattle.words.specs.Kinds.{ENDED, NUMBER}
 use Rattle.tokens.specs.Tokens.{Token, from}

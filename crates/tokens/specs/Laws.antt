@@ -1,17 +1,15 @@
 -- Laws of tokens: how a run goes on, that a token has a byte at least, and that the tokens behind a token are those from its end on.
-use Rattle.std.specs.Prelude.{◌+◌, ◌-◌, ◌%◌, ◌<◌, ◌≤◌}
-use Rattle.common.specs.Words.{ℕ, zero, suc, arith, add-one, Bool, true, false, true≢false, cond}
-use Rattle.std.specs.Prelude.{◌&&◌, ◌∷◌, ◌≡◌}
-use Rattle.common.specs.Words.{List, [], refl, sym, ap, ◌∙◌}
-use Rattle.common.specs.Words.{eqb, leb, length, take, drop, get_or, le-leb, lt-leb, eq-eqb, ne_eqb, eqb-true, drop-cons}
-use Rattle.common.specs.Words.{drop-drop, drop_of_length-le, length-drop, get_or-drop, get_or-eq_default, ⊎_elim}
+use Rattle.std.specs.Prelude.{◌+◌, ◌-◌, ◌%◌, ◌<◌, ◌≤◌, ◌&&◌, ◌∷◌, ◌≡◌}
+use Rattle.common.specs.Words.{ℕ, zero, suc, arith, add-one, Bool, true, false, true≢false, cond, List, [], refl, sym, ap, ◌∙◌, eqb, leb}
+use Rattle.common.specs.Words.{length, take, drop, get_or, le-leb, lt-leb, eq-eqb, ne_eqb, eqb-true, drop-cons, drop-drop, drop_of_length-le}
+use Rattle.common.specs.Words.{length-drop, get_or-drop, get_or-eq_default, ⊎_elim}
 use Rattle.std.proofs.Math.Bool.{and-false}
 use Rattle.common.specs.Tests.{lt_or_le, and_left, and_right}
 use Rattle.common.specs.Stores.{part}
 use Rattle.tokens.specs.declared.Shape.{Shape}
 use Rattle.tokens.specs.Spots.{Stands, behind}
-use Rattle.tokens.specs.Tokens.{Token, token, sort_of, run, blank, letter, digit, underscore, shape, word_shape}
-use Rattle.tokens.specs.Tokens.{number_width, one_of, sign_shape, shape_of, none, tokens_by, from}
+use Rattle.tokens.specs.Tokens.{Token, token, sort_of, run, blank, letter, digit, underscore, shape, word_shape, number_width, one_of, sign_shape}
+use Rattle.tokens.specs.Tokens.{shape_of, none, tokens_by, from}
 use Rattle.words.specs.Words.{kind_of}
 use Rattle.words.specs.Found.{kind_from}
 use Rattle.words.specs.Kinds.{ENDED, NUMBER, BECOMES, ADDS, ARROW, DELAYING, BOTH-WAYS, SCOPE, DOTS}

@@ -1,7 +1,6 @@
 -- AADL.md, section 1: the tokens of a plain text. "At each place the longest token counts".
 use Rattle.std.specs.Prelude.{◌+◌, ◌%◌, ◌&&◌, ◌∷◌}
-use Rattle.common.specs.Words.{ℕ, zero, suc, Bool, true, false, cond, List, [], eqb, ltb, leb, length, take}
-use Rattle.common.specs.Words.{drop, get_or}
+use Rattle.common.specs.Words.{ℕ, zero, suc, Bool, true, false, cond, List, [], eqb, ltb, leb, length, take, drop, get_or}
 use Rattle.tokens.specs.declared.Shape.{Shape}
 use Rattle.words.specs.Words.{kind_of}
 use Rattle.words.specs.Kinds.{ENDED, NUMBER, BECOMES, ADDS, ARROW, DELAYING, BOTH-WAYS, SCOPE, DOTS}

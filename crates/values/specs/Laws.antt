@@ -1,21 +1,17 @@
 -- Laws of values: each rule goes on by a token at least, and rules in a row begin from what a rule has said.
-use Rattle.std.specs.Prelude.{◌-◌, ◌<◌, ◌≤◌, ◌⊎◌}
-use Rattle.common.specs.Words.{ℕ, zero, suc, arith, true, false, true≢false, cond, List}
-use Rattle.std.specs.Prelude.{◌≡◌}
-use Rattle.common.specs.Words.{⊎_elim, refl, sym, ◌∙◌}
-use Rattle.words.specs.Kinds.{ENDED, ADDS, BECOMES, SCOPE, COMMA, SEMICOLON, OPEN-PAREN, CLOSE-PAREN, OPEN-BRACKET}
-use Rattle.words.specs.Kinds.{CLOSE-BRACKET, OPEN-BRACE, CLOSE-BRACE}
+use Rattle.std.specs.Prelude.{◌-◌, ◌<◌, ◌≤◌, ◌⊎◌, ◌≡◌}
+use Rattle.common.specs.Words.{ℕ, zero, suc, arith, true, false, true≢false, cond, List, ⊎_elim, refl, sym, ◌∙◌}
+use Rattle.words.specs.Kinds.{ENDED, ADDS, BECOMES, SCOPE, COMMA, SEMICOLON, OPEN-PAREN, CLOSE-PAREN, OPEN-BRACKET, CLOSE-BRACKET, OPEN-BRACE}
+use Rattle.words.specs.Kinds.{CLOSE-BRACE}
 use Rattle.tokens.specs.Tokens.{Token}
 use Rattle.tokens.specs.Laws.{cases}
 use Rattle.steps.specs.Steps.{Step, On, Stop, ◌⟫◌, next, is, named, stop_at, unfit, any, the, name, many}
 use Rattle.steps.specs.Lifted.{first_kind}
-use Rattle.steps.specs.Laws.{Moved, Moves, advances, stopped, moved_any, moved_then, moved_less, moved_either}
-use Rattle.steps.specs.Laws.{moves_the, moves_name, moves_many}
+use Rattle.steps.specs.Laws.{Moved, Moves, advances, stopped, moved_any, moved_then, moved_less, moved_either, moves_the, moves_name, moves_many}
 use Rattle.steps.specs.Laws.{then_then, choose_on, choose_off, kind_on, kind_off, is_on, is_off}
 use Rattle.common.specs.Tests.{lt_or_le}
-use Rattle.values.specs.Values.{a_value, too_deep, part_kind, begins_part, value_by, comma_by, values_by, list_by, field_by}
-use Rattle.values.specs.Values.{record_by, part_by, part_of, value_of, value, values}
-use Rattle.values.specs.Values.{inner, scoped, assigns, association, associations, block}
+use Rattle.values.specs.Values.{a_value, too_deep, part_kind, begins_part, value_by, comma_by, values_by, list_by, field_by, record_by, part_by}
+use Rattle.values.specs.Values.{part_of, value_of, value, values, inner, scoped, assigns, association, associations, block}
 
 -- a kind that is none of the text's end
 the_moves : (kind : ℕ) → (kind ≡ ENDED → ⊥) → Moves 0 (the kind)

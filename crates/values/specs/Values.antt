@@ -1,9 +1,8 @@
 -- AADL.md, section 2: values of properties, associations and blocks of them, as they are skipped.
-use Rattle.common.specs.Words.{ℕ, zero, suc, Bool, true, false, cond, List}
-use Rattle.words.specs.Kinds.{ENDED, END, BECOMES, ADDS, SCOPE, COMMA, SEMICOLON, OPEN-PAREN, CLOSE-PAREN, OPEN-BRACKET, CLOSE-BRACKET}
-use Rattle.words.specs.Kinds.{OPEN-BRACE, CLOSE-BRACE}
+use Rattle.common.specs.Words.{ℕ, zero, suc, Bool, true, false, cond, List, eqb}
+use Rattle.words.specs.Kinds.{ENDED, END, BECOMES, ADDS, SCOPE, COMMA, SEMICOLON, OPEN-PAREN, CLOSE-PAREN, OPEN-BRACKET, CLOSE-BRACKET, OPEN-BRACE}
+use Rattle.words.specs.Kinds.{CLOSE-BRACE}
 use Rattle.tokens.specs.Tokens.{Token}
-use Rattle.common.specs.Words.{eqb}
 use Rattle.steps.specs.Steps.{Step, ◌⟫◌, next, is, named, stop_at, unfit, any, the, name, many}
 
 -- what is expected, or wrong

@@ -7,8 +7,8 @@ ghost use Rattle.steps.specs.Faults.{worst};
 ghost use Rattle.rows.specs.Rows.{row_words};
 ghost use Rattle.index.specs.Index.{rows_in, Indexed};
 ghost use Rattle.ways.specs.Ways.{cell, above, implementation_of, port_of, ends_of, Known};
-ghost use Rattle.verdict.specs.Verdict.{fault_if, none, again_faults, thread_faults, timing_by, out_faults, in_faults};
-ghost use Rattle.verdict.specs.Verdict.{twice_faults, link_faults, row_faults, process_faults, judged};
+ghost use Rattle.verdict.specs.Verdict.{fault_if, none, again_faults, thread_faults, timing_by, out_faults, in_faults, twice_faults, link_faults};
+ghost use Rattle.verdict.specs.Verdict.{row_faults, process_faults, judged};
 
 use index::{CONNECTED, DECLARED, find, number_of};
 use keys::Key;

@@ -1,9 +1,7 @@
 -- Laws of ways: one type more, where the last one was, and what lent memory holds.
-use Rattle.std.specs.Prelude.{◌+◌, ◌-◌, ◌<◌, ◌≤◌}
-use Rattle.common.specs.Words.{ℕ, zero, suc, arith, Bool, true, false, cond, List, []}
-use Rattle.std.specs.Prelude.{◌∷◌, ◌++◌, ◌≡◌}
-use Rattle.common.specs.Words.{refl, sym, ap, ◌∙◌}
-use Rattle.common.specs.Words.{eqb, eq-eqb, ne_eqb, length, get_or, ⊎_elim, set, get_or-set_same, get_or-set_other}
+use Rattle.std.specs.Prelude.{◌+◌, ◌-◌, ◌<◌, ◌≤◌, ◌∷◌, ◌++◌, ◌≡◌}
+use Rattle.common.specs.Words.{ℕ, zero, suc, arith, Bool, true, false, cond, List, [], refl, sym, ap, ◌∙◌, eqb, eq-eqb, ne_eqb, length}
+use Rattle.common.specs.Words.{get_or, ⊎_elim, set, get_or-set_same, get_or-set_other}
 use Rattle.common.specs.Tests.{lt_or_le}
 use Rattle.std.proofs.Math.Numerals.{unary_clauses}
 use Rattle.keys.specs.Keys.{Meaning, key, meant}
@@ -11,8 +9,8 @@ use Rattle.rows.specs.Rows.{Row}
 use Rattle.index.specs.Found.{found, found_le}
 use Rattle.index.specs.Index.{rows_in, keys_of}
 use Rattle.index.specs.Laws.{keys_length}
-use Rattle.ways.specs.Ways.{cell, look, type_named, above, implementation_of, way_by, way, most_types, first_in, given}
-use Rattle.ways.specs.Ways.{property_of, ends, Bounded, Known}
+use Rattle.ways.specs.Ways.{cell, look, type_named, above, implementation_of, way_by, way, most_types, first_in, given, property_of, ends, Bounded}
+use Rattle.ways.specs.Ways.{Known}
 
 -- ## What is found is there
 

@@ -1,8 +1,7 @@
 -- AADL.md, sections 4 and 6: which declaration a name means, and the way from a thread's type to the types that this one extends, along
 -- which its properties and its ports are looked for.
 use Rattle.std.specs.Prelude.{◌<◌, ◌≤◌, ◌≡◌, ◌∷◌, ◌++◌}
-use Rattle.common.specs.Words.{ℕ, zero, suc, Bool, true, false, cond, List, [], eqb, length}
-use Rattle.common.specs.Words.{get_or}
+use Rattle.common.specs.Words.{ℕ, zero, suc, Bool, true, false, cond, List, [], eqb, length, get_or}
 use Rattle.keys.specs.declared.Key.{Key}
 use Rattle.keys.specs.Keys.{key, meant}
 use Rattle.rows.specs.Rows.{Row, a_type, an_implementation, a_port, a_thread}

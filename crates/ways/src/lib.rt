@@ -7,8 +7,8 @@ ghost use Rattle.common.specs.Words.{ℕ, length, get_or};
 ghost use Rattle.keys.specs.Keys.{key};
 ghost use Rattle.rows.specs.Rows.{row_words, a_port};
 ghost use Rattle.index.specs.Index.{rows_in, Indexed};
-ghost use Rattle.ways.specs.Ways.{cell, look, type_named, above, implementation_of, thread_named, most_types, way_by, first_in};
-ghost use Rattle.ways.specs.Ways.{given, property_of, port_of, ends, Bounded, Known};
+ghost use Rattle.ways.specs.Ways.{cell, look, type_named, above, implementation_of, thread_named, most_types, way_by, first_in, given, property_of};
+ghost use Rattle.ways.specs.Ways.{port_of, ends, Bounded, Known};
 
 use index::{DECLARED, column, find};
 use keys::Key;

@@ -1,9 +1,7 @@
 -- The window of the receiver's job that was released last, from the columns of a plan, and what may be remembered of it.
-use Rattle.std.specs.Prelude.{◌+◌, ◌-◌, ◌*◌, ◌/◌, ◌^◌, ◌<◌, ◌≤◌}
-use Rattle.common.specs.Words.{ℕ, arith, div-mul-le_self, div-eq_of_lt-le}
-use Rattle.common.specs.Words.{mul-le-mul_right, Bool, true}
-use Rattle.std.specs.Prelude.{◌&&◌, ◌≡◌}
-use Rattle.common.specs.Words.{leb, ltb, leb-true, ltb-true, refl, sym, ap, ◌∙◌}
+use Rattle.std.specs.Prelude.{◌+◌, ◌-◌, ◌*◌, ◌/◌, ◌^◌, ◌<◌, ◌≤◌, ◌&&◌, ◌≡◌}
+use Rattle.common.specs.Words.{ℕ, arith, div-mul-le_self, div-eq_of_lt-le, mul-le-mul_right, Bool, true, leb, ltb, leb-true, ltb-true, refl, sym}
+use Rattle.common.specs.Words.{ap, ◌∙◌}
 use Rattle.common.specs.Tests.{both}
 use Rattle.model.specs.Model.{Queue, receiver_period, released, up_to, first, last}
 use Rattle.calendar.specs.Calendar.{tick, message}

@@ -1,11 +1,8 @@
 -- How a word is found in the list: by a sum over its letters that no two words of the list share. What the code's tables hold is
 -- reckoned from the list itself.
-use Rattle.std.specs.Prelude.{◌+◌, ◌-◌, ◌*◌, ◌%◌, ◌<◌, ◌≤◌}
-use Rattle.common.specs.Words.{ℕ, suc, arith, Bool, true, false, cond}
-use Rattle.std.specs.Prelude.{◌&&◌, ◌∷◌, ◌++◌, ◌⊎◌}
-use Rattle.common.specs.Words.{List, [], inl, inr, ⊎_elim}
-use Rattle.std.specs.Prelude.{◌≡◌}
-use Rattle.common.specs.Words.{refl, sym, ap, ◌∙◌, eqb, leb, eqb-true, leb-true, length, get_or, replicate}
+use Rattle.std.specs.Prelude.{◌+◌, ◌-◌, ◌*◌, ◌%◌, ◌<◌, ◌≤◌, ◌&&◌, ◌∷◌, ◌++◌, ◌⊎◌, ◌≡◌}
+use Rattle.common.specs.Words.{ℕ, suc, arith, Bool, true, false, cond, List, [], inl, inr, ⊎_elim, refl, sym, ap, ◌∙◌, eqb, leb, eqb-true}
+use Rattle.common.specs.Words.{leb-true, length, get_or, replicate}
 use Rattle.common.specs.Tests.{clash, true_or_false, and_left, and_right}
 use Rattle.common.proofs.Rows.{every, every_at}
 use Rattle.common.specs.Stores.{part}

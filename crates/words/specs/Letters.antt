@@ -1,7 +1,6 @@
 -- Words that are written out, as lists of bytes.
 use Rattle.std.specs.Prelude.{◌+◌, ◌-◌, ◌<◌, ◌∷◌, ◌++◌, ◌≡◌}
-use Rattle.common.specs.Words.{ℕ, zero, suc, Bool, true, false, cond, List, []}
-use Rattle.common.specs.Words.{refl, eqb, eq-eqb, ne_eqb, eqb-true, length, get_or}
+use Rattle.common.specs.Words.{ℕ, zero, suc, Bool, true, false, cond, List, [], refl, eqb, eq-eqb, ne_eqb, eqb-true, length, get_or}
 use Rattle.common.specs.Stores.{part, part_cons}
 use Prim.Native.String.{String, len, char_at}
 use Prim.Native.Char.{code}

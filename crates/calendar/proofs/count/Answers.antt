@@ -1,8 +1,6 @@
 -- `calendar::count`: before the first deadline the quotient is 0, and from there on it is one more than that of the definition.
-use Rattle.std.specs.Prelude.{◌+◌, ◌-◌, ◌*◌, ◌/◌, ◌<◌, ◌≤◌}
-use Rattle.common.specs.Words.{ℕ, add-mul-div_right, div-eq_of_lt-le, arith, ⊎_elim}
-use Rattle.std.specs.Prelude.{◌≡◌}
-use Rattle.common.specs.Words.{sym, ◌∙◌}
+use Rattle.std.specs.Prelude.{◌+◌, ◌-◌, ◌*◌, ◌/◌, ◌<◌, ◌≤◌, ◌≡◌}
+use Rattle.common.specs.Words.{ℕ, add-mul-div_right, div-eq_of_lt-le, arith, ⊎_elim, sym, ◌∙◌}
 use Rattle.common.specs.Tests.{lt_or_le}
 use Rattle.model.specs.Model.{count}
 use Rattle.model.proofs.Count.{count_before, count_from}

@@ -10,7 +10,7 @@ use Rattle.kit.proofs.receivers.Given as goal
 abbrev pub invariant-loop-j : goal.invariant-loop-j
 invariant-loop-j l =
     (l.j ≤ 8) × (length l.out ≡ 8) × (take l.j l.out ≡ table
-        (at_or (queues_of l.text (rows_in l.count l.rows)) (receiver_of l.text (rows_in l.count l.rows)) 0) l.j)
+    (at_or (queues_of l.text (rows_in l.count l.rows)) (receiver_of l.text (rows_in l.count l.rows)) 0) l.j)
 
 abbrev pub decreases-loop-j : goal.decreases-loop-j
 decreases-loop-j l = 8 - l.j

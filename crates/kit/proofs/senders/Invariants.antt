@@ -11,7 +11,7 @@ abbrev pub invariant-loop-c : goal.invariant-loop-c
 invariant-loop-c l =
     (l.c ≤ 128) × (length l.out ≡ 128)
     × (take l.c l.out ≡ table (sends_at l.text (rows_in l.count l.rows) (threads_of (rows_in l.count l.rows))
-        (queues_of l.text (rows_in l.count l.rows))) l.c)
+    (queues_of l.text (rows_in l.count l.rows))) l.c)
 
 abbrev pub decreases-loop-c : goal.decreases-loop-c
 decreases-loop-c l = 128 - l.c

@@ -17,8 +17,11 @@ pub returns-then-declared-lt-TREE_ROOM : goal.returns-then-declared-lt-TREE_ROOM
 unfolding enough
 returns-then-declared-lt-TREE_ROOM c =
     let b = c in let d = b in let a = d.args in
-    rw (le-leb most_bytes a.plain d.if-plain-lt-MOST_BYTES.false, le-leb rows_room a.rows b.if-rows-lt-ROWS_ROOM.false,
-        lt-leb tree_room a.declared c.if-declared-lt-TREE_ROOM.true)
+    rw (
+      le-leb most_bytes a.plain d.if-plain-lt-MOST_BYTES.false,
+      le-leb rows_room a.rows b.if-rows-lt-ROWS_ROOM.false,
+      lt-leb tree_room a.declared c.if-declared-lt-TREE_ROOM.true,
+    )
 
 pub returns-then-connected-lt-TREE_ROOM : goal.returns-then-connected-lt-TREE_ROOM
 unfolding enough

@@ -1,7 +1,6 @@
 -- `rows::keep`: the numbers so far stand in their places.
 use Rattle.std.specs.Prelude.{◌≡◌, ◌+◌, ◌*◌}
-use Rattle.common.specs.Words.{rules, refl, length}
-use Rattle.common.specs.Words.{take, length-set, take_all, le-leb, lt-leb}
+use Rattle.common.specs.Words.{rules, refl, length, take, length-set, take_all, le-leb, lt-leb}
 use Rattle.common.specs.Stores.{sets_more}
 use Rattle.rows.specs.Rows.{with_row}
 use Rattle.rows.proofs.keep.Goals as goal

@@ -1,7 +1,6 @@
 -- `rows::keep`: the numbers so far stand in their places.
 use Rattle.std.specs.Prelude.{◌≡◌, ◌-◌, ◌*◌, ◌≤◌}
-use Rattle.common.specs.Words.{length}
-use Rattle.common.specs.Words.{take, sets}
+use Rattle.common.specs.Words.{length, take, sets}
 use Rattle.rows.proofs.keep.Given as goal
 
 abbrev pub invariant-loop-k : goal.invariant-loop-k

@@ -1,7 +1,7 @@
 -- `tables::byte_column`: before the loop's row the values are those that are counted, from it on those that were handed in.
 use Rattle.std.specs.Prelude.{◌+◌, ◌<◌, ◌≤◌, ◌≡◌}
-use Rattle.common.specs.Words.{ℕ, ℕ_discrete, le_refl, arith, List, sym, subst, ◌∙◌, length, get_or, set}
-use Rattle.common.specs.Words.{lt-ltb, le-ltb, ext_get_or, get_or-set_same, get_or-set_other, rules}
+use Rattle.common.specs.Words.{ℕ, ℕ_discrete, le_refl, arith, List, sym, subst, ◌∙◌, length, get_or, set, lt-ltb, le-ltb, ext_get_or}
+use Rattle.common.specs.Words.{get_or-set_same, get_or-set_other, rules}
 use Rattle.common.specs.Table.{table_at, table_length}
 use Rattle.tables.specs.Table.{value_within, counted}
 use Rattle.tables.proofs.byte_column.Goals as goal

@@ -17,7 +17,7 @@ returns-then-kind-eq-ANNEX c =
     let s = state_of a.text.now a.reading a.rows.now in
     rw (c.on.ensures, c.annex.ensures)
     (does_quiet s annex ∙ chosen_annex s (λ e. i.if-kind-eq-THREAD.false (k.next_of-kind.ensures ∙ e))
-        (sym k.next_of-kind.ensures ∙ j.if-kind-eq-ANNEX.true))
+    (sym k.next_of-kind.ensures ∙ j.if-kind-eq-ANNEX.true))
 
 pub returns-then-is_process : goal.returns-then-is_process
 returns-then-is_process c =

@@ -14,7 +14,7 @@ returns-then-kind-eq-PROPERTIES c =
     let j = c in let i = j in let k = i in let a = k.args in
     rw (c.none_or_some.ensures, c.symbol-then-kind-eq-PROPERTIES.ensures)
     (clause_properties (lift a.text.now a.went) (λ e. i.if-kind-eq-WITH.false (k.next-kind.ensures ∙ e))
-        (sym k.next-kind.ensures ∙ j.if-kind-eq-PROPERTIES.true))
+    (sym k.next-kind.ensures ∙ j.if-kind-eq-PROPERTIES.true))
 
 pub returns : goal.returns
 returns c =

@@ -23,4 +23,4 @@ returns c =
     u.thread_type.ensures
     ∙ thread_by_type (state_of a.text.now a.reading a.rows.now)
     (λ e. i.if-second-eq-IMPLEMENTATION.false (k.second_of-second.ensures ∙ e))
-        (λ e. j.if-second-eq-GROUP.false (k.second_of-second.ensures ∙ e))
+    (λ e. j.if-second-eq-GROUP.false (k.second_of-second.ensures ∙ e))

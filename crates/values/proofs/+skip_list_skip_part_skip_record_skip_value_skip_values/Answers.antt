@@ -6,8 +6,8 @@ use Rattle.steps.specs.Steps.{is as is_kind, named, the}
 use Rattle.steps.specs.Lifted.{lift}
 use Rattle.steps.specs.Laws.{then_then, kind_on, kind_off, is_on, is_off, advances, many_on, many_off, many_less}
 use Rattle.values.specs.Values.{part_kind, begins_part, comma_by, field_by, part_of, value_of}
-use Rattle.values.specs.Laws.{part_moves, value_of_moves, comma_moves, field_moves, value_then, values_then, field_then, record_then}
-use Rattle.values.specs.Laws.{list_ends, list_goes, part_too_deep, part_opens, part_holds, part_atom, part_unfit}
+use Rattle.values.specs.Laws.{part_moves, value_of_moves, comma_moves, field_moves, value_then, values_then, field_then, record_then, list_ends}
+use Rattle.values.specs.Laws.{list_goes, part_too_deep, part_opens, part_holds, part_atom, part_unfit}
 use Rattle.values.proofs.+skip_list_skip_part_skip_record_skip_value_skip_values.Goals as goal
 
 pub skip_list-returns-then-next-eq-CLOSE_PAREN : goal.skip_list-returns-then-next-eq-CLOSE_PAREN

@@ -1,8 +1,7 @@
 -- `number::precedes`: the model's rule for equal deadlines, by its two laws.
 -- one more decides between equal numbers,
 use Rattle.std.specs.Prelude.{◌+◌, ◌<◌, ◌≤◌, ◌≡◌}
-use Rattle.common.specs.Words.{ℕ, ℕ_discrete, arith, Bool, true, false, ⊎_elim, sym, ◌∙◌}
-use Rattle.common.specs.Words.{ltb, lt-ltb, le-ltb}
+use Rattle.common.specs.Words.{ℕ, ℕ_discrete, arith, Bool, true, false, ⊎_elim, sym, ◌∙◌, ltb, lt-ltb, le-ltb}
 use Rattle.common.specs.Tests.{lt_or_le}
 use Rattle.common.specs.Totals.{only, only_most}
 use Rattle.model.specs.Model.{Queue, precedes}

@@ -9,7 +9,7 @@ use Rattle.sizing.proofs.cycle.messages_in.Given as goal
 abbrev pub invariant-loop-i : goal.invariant-loop-i
 invariant-loop-i l =
     (l.i ≤ l.plan.tasks) × (l.sum ≡ Rattle.common.specs.Totals.sum (row_messages (queue_at l.plan l.queue) l.ticks) l.i)
-        × (l.sum ≤ longest_hyperperiod * l.i)
+    × (l.sum ≤ longest_hyperperiod * l.i)
 
 abbrev pub decreases-loop-i : goal.decreases-loop-i
 decreases-loop-i l = l.plan.tasks - l.i

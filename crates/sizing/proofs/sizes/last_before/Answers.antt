@@ -1,7 +1,6 @@
 -- `sizing::sizes::last_before`: the last job released before a tick, by a division, and no further than the second hyperperiod.
 use Rattle.std.specs.Prelude.{◌+◌, ◌-◌, ◌*◌, ◌/◌, ◌<◌, ◌≤◌, ◌≡◌}
-use Rattle.common.specs.Words.{ℕ, arith}
-use Rattle.common.specs.Words.{le-div_iff_mul-le, div-mul-le_self, mul-le-mul_right, le_refl}
+use Rattle.common.specs.Words.{ℕ, arith, le-div_iff_mul-le, div-mul-le_self, mul-le-mul_right, le_refl}
 use Rattle.sizing.proofs.sizes.last_before.Goals as goal
 
 -- job o is released before u, so it is not behind the quotient,

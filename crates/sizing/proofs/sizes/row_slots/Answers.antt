@@ -1,8 +1,7 @@
 -- `sizing::sizes::row_slots`: the loop keeps the greatest need of the jobs passed, and asks one job for each horizon: the last that is
 -- released before it moves. The second hyperperiod ends before the last tick.
 use Rattle.std.specs.Prelude.{◌*◌, ◌+◌, ◌/◌, ◌<◌, ◌≤◌, ◌≡◌}
-use Rattle.common.specs.Words.{ℕ, max, List, Bool, arith, refl, sym, ap, ◌∙◌}
-use Rattle.common.specs.Words.{div-le_self, div-mul-le_self, mul-le-mul_right}
+use Rattle.common.specs.Words.{ℕ, max, List, Bool, arith, refl, sym, ap, ◌∙◌, div-le_self, div-mul-le_self, mul-le-mul_right}
 use Rattle.common.specs.Totals.{most}
 use Rattle.model.specs.Model.{Queue, Valid, Sender, release_of, deadline_of}
 use Rattle.calendar.specs.declared.Tick.{Tick}
@@ -180,9 +179,9 @@ loop-k-preserved c =
     let f = found v.After-horizon_at-horizon in
     let q = columns_of v.In-loop-k in
     let same = same_last r.0 a.priority.now a.chart a.wanted a.task a.ticks r.1 r.4 r.5 c.loop-k.k last h f c.loop-k-test.true
-        c.last_before-last.ensures in
+    c.last_before-last.ensures in
     let e : c.need_of-need.result ≡ need_for q a.chart a.wanted a.task (jobs_of v.In-loop-k + last) =
     rw (← same, ← up_to_ordered r.0 a.priority.now h) (rw c.deadline_of-due.ensures at c.need_of-need.ensures) in
     let jump = needs_last r.0 a.priority.now a.chart a.wanted a.task a.ticks r.1 r.4 r.5 c.loop-k.k last h f c.loop-k-test.true
-        c.last_before-last.ensures in
+    c.last_before-last.ensures in
     (omega (arith, c.last_before-last.ensures.0), c.larger-most.ensures ∙ rw (e, c.loop-k.invariant.1) jump)

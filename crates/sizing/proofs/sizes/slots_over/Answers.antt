@@ -62,9 +62,11 @@ loop-i-preserved c =
     let a = w.args in
     let q = queue_at a.plan a.queue in
     let e : s.share-row.result ≡ only (q.sends l.loop-i.i) (row_slots q a.ticks l.loop-i.i) =
-    rw (s.share-row.ensures, w.wanted_for-wanted.ensures q refl, row_slots_ordered a.plan a.queue a.ticks l.loop-i.i) in
-    (omega arith, rw (most_next (λ i. only (q.sends i) (row_slots q a.ticks i)) l.loop-i.i, ← l.loop-i.invariant.1, ← e)
-        c.larger-greatest.ensures)
+    rw (s.share-row.ensures, w.wanted_for-wanted.ensures q refl, row_slots_ordered a.plan a.queue a.ticks l.loop-i.i) in (
+      omega arith,
+      rw (most_next (λ i. only (q.sends i) (row_slots q a.ticks i)) l.loop-i.i, ← l.loop-i.invariant.1, ← e)
+          c.larger-greatest.ensures,
+    )
 
 pub returns : goal.returns
 unfolding slots_over
