@@ -56,7 +56,7 @@ pub judge_wanting-requires : goal.judge_wanting-requires
 judge_wanting-requires c =
     let a = c.args in
     let q = queue_at (lent_plan a.sends.now a.period.now a.deadline.now a.priority.now a.receiver.now a.size.now a.place.now a.tasks a.queues)
-        a.queue in
+    a.queue in
     let k = known _ _ (as_tested c.requires c.if-not-sound.false) c.if-queues-queue.false in
     rw (c.wanted_for.ensures q refl) (receiver_fits k)
 
@@ -64,7 +64,7 @@ pub returns : goal.returns
 returns c =
     let a = c.args in
     let q = queue_at (lent_plan a.sends.now a.period.now a.deadline.now a.priority.now a.receiver.now a.size.now a.place.now a.tasks a.queues)
-        a.queue in
+    a.queue in
     rw (
       eight _ (as_tested c.requires c.if-not-sound.false) _ c.short.ensures,
       c.if-short.false,

@@ -36,30 +36,30 @@ returns-then-not-connected c =
 pub overflow_mul-unsent : goal.overflow_mul-unsent
 overflow_mul-unsent c =
     let q = connected_counted _ (as_tested c.requires c.if-not-sound.false) _ _ c.connected.ensures (rw c.if-not-connected.false refl) in
-        search (rules, q)
+    search (rules, q)
 
 pub overflow_add-unsent : goal.overflow_add-unsent
 overflow_add-unsent c =
     let q = connected_counted _ (as_tested c.requires c.if-not-sound.false) _ _ c.connected.ensures (rw c.if-not-connected.false refl) in
     let f = connected_fits _ (as_tested c.requires c.if-not-sound.false) _ _ c.connected.ensures (rw c.if-not-connected.false refl) in
-        search (rules, q, f.0)
+    search (rules, q, f.0)
 
 pub offset_bounds-sent-queue : goal.offset_bounds-sent-queue
 offset_bounds-sent-queue c =
     let q = connected_counted _ (as_tested c.requires c.if-not-sound.false) _ _ c.connected.ensures (rw c.if-not-connected.false refl) in
     let f = connected_fits _ (as_tested c.requires c.if-not-sound.false) _ _ c.connected.ensures (rw c.if-not-connected.false refl) in
-        search (rules, q, f.0)
+    search (rules, q, f.0)
 
 pub bounds-sent-queue : goal.bounds-sent-queue
 bounds-sent-queue c =
     let q = connected_counted _ (as_tested c.requires c.if-not-sound.false) _ _ c.connected.ensures (rw c.if-not-connected.false refl) in
     let f = connected_fits _ (as_tested c.requires c.if-not-sound.false) _ _ c.connected.ensures (rw c.if-not-connected.false refl) in
-        omega (arith, q, f.0)
+    omega (arith, q, f.0)
 
 pub offset_bounds-period-task : goal.offset_bounds-period-task
 offset_bounds-period-task c =
     let f = connected_fits _ (as_tested c.requires c.if-not-sound.false) _ _ c.connected.ensures (rw c.if-not-connected.false refl) in
-        search (rules, f)
+    search (rules, f)
 
 pub bounds-period-task : goal.bounds-period-task
 bounds-period-task c = (connected_fits _ (as_tested c.requires c.if-not-sound.false) _ _ c.connected.ensures (rw c.if-not-connected.false refl)).0
@@ -67,7 +67,7 @@ bounds-period-task c = (connected_fits _ (as_tested c.requires c.if-not-sound.fa
 pub offset_bounds-deadline-task : goal.offset_bounds-deadline-task
 offset_bounds-deadline-task c =
     let f = connected_fits _ (as_tested c.requires c.if-not-sound.false) _ _ c.connected.ensures (rw c.if-not-connected.false refl) in
-        search (rules, f)
+    search (rules, f)
 
 pub bounds-deadline-task : goal.bounds-deadline-task
 bounds-deadline-task c = (connected_fits _ (as_tested c.requires c.if-not-sound.false) _ _ c.connected.ensures (rw c.if-not-connected.false refl)).0
