@@ -1,13 +1,7 @@
 -- Laws of connections: what the code does one after another is what the rules say, and how far they go.
 use Rattle.std.specs.Prelude.{◌&&◌, ◌≡◌}
-<<<<<<< HEAD
 use Rattle.common.specs.Words.{ℕ, arith, Bool, true, false, cond, List, refl, ap, ◌∙◌, ne_eqb}
 use Rattle.words.specs.Kinds.{SEMICOLON}
-=======
-use Rattle.common.specs.Words.{ℕ, arith, Bool, true, false, cond, List, [], refl, sym, ap, ◌∙◌, eqb, eq-eqb, ne_eqb, get_or}
-use Rattle.words.specs.Words.{is_name}
-use Rattle.words.specs.Kinds.{ENDED, DOT, SEMICOLON}
->>>>>>> 3717ac6 (Imports: a line for each page that is named)
 use Rattle.tokens.specs.Tokens.{Token}
 use Rattle.tokens.specs.Laws.{cases}
 use Rattle.steps.specs.Steps.{Step, On, Stop, ◌⟫◌, head, next, second, the}

@@ -1,12 +1,6 @@
 -- Laws of other declarations: what the code does token by token is what the rule says, and how far it goes.
-<<<<<<< HEAD
 use Rattle.std.specs.Prelude.{◌<◌, ◌∷◌, ◌≡◌, ◌&&◌, ◌⊎◌}
 use Rattle.common.specs.Words.{ℕ, arith, Bool, true, false, true≢false, List, [], refl, sym, ap, ◌∙◌, eq-eqb, ne_eqb, inl, inr}
-=======
-use Rattle.std.specs.Prelude.{◌<◌, ◌∷◌, ◌++◌, ◌≡◌, ◌&&◌, ◌⊎◌}
-use Rattle.common.specs.Words.{ℕ, suc, arith, Bool, true, false, true≢false, cond, List, [], length, refl, sym, ap, ◌∙◌, eqb, eq-eqb}
-use Rattle.common.specs.Words.{ne_eqb, inl, inr}
->>>>>>> 3717ac6 (Imports: a line for each page that is named)
 use Rattle.words.specs.Kinds.{ENDED, END, SEMICOLON, APPLIES}
 use Rattle.tokens.specs.Tokens.{Token}
 use Rattle.tokens.specs.Laws.{cases}

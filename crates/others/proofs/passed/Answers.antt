@@ -1,19 +1,9 @@
 -- `others::passed`: what is left to pass says what the whole does, with the least of the words that wait.
-<<<<<<< HEAD
 use Rattle.common.specs.Words.{ℕ, [], refl, sym, ap, ◌∙◌, not, not-true, not-false}
 use Rattle.steps.specs.Faults.{worst}
 use Rattle.steps.specs.Lifted.{lift}
 use Rattle.rows.specs.States.{state_of}
 use Rattle.others.specs.Others.{last_kind}
-=======
-use Rattle.std.specs.Prelude.{◌≡◌}
-use Rattle.common.specs.Words.{rules, ℕ, List, [], refl, sym, ap, ◌∙◌, not, not-true, not-false}
-use Rattle.steps.specs.declared.Fault.{Fault}
-use Rattle.steps.specs.Faults.{no_fault, worst}
-use Rattle.steps.specs.Lifted.{lift, size}
-use Rattle.rows.specs.States.{State, state_of, does}
-use Rattle.others.specs.Others.{last_kind, passing}
->>>>>>> 3717ac6 (Imports: a line for each page that is named)
 use Rattle.others.specs.Laws.{passing_on, passing_off, passing_less, waits}
 use Rattle.others.proofs.passed.Goals as goal
 

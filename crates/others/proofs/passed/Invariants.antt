@@ -1,10 +1,6 @@
 -- `others::passed`: what is left to pass says what the whole does, with the least of the words that wait.
 use Rattle.std.specs.Prelude.{◌≡◌}
-<<<<<<< HEAD
 use Rattle.common.specs.Words.{ℕ, List, []}
-=======
-use Rattle.common.specs.Words.{rules, ℕ, List, [], refl, sym, ap, ◌∙◌, not, not-true, not-false}
->>>>>>> 3717ac6 (Imports: a line for each page that is named)
 use Rattle.steps.specs.declared.Fault.{Fault}
 use Rattle.steps.specs.Faults.{no_fault, worst}
 use Rattle.steps.specs.Lifted.{lift, size}

@@ -1,11 +1,5 @@
 -- `others::waiting_after`.
-<<<<<<< HEAD
 use Rattle.common.specs.Words.{sym, ◌∙◌, inl, inr}
-=======
-use Rattle.std.specs.Prelude.{◌≡◌, ◌&&◌}
-use Rattle.common.specs.Words.{rules, ℕ, List, [], refl, sym, ap, ◌∙◌, inl, inr, true, false, not-true, not-false}
-use Rattle.others.specs.Others.{reaching}
->>>>>>> 3717ac6 (Imports: a line for each page that is named)
 use Rattle.others.specs.Laws.{waits_none, waits_same, waits_more}
 use Rattle.others.proofs.waiting_after.Goals as goal
 
