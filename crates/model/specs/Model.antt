@@ -32,7 +32,6 @@ pub record Queue : Type 0 where
 
 abbrev pub receiver_period : Queue → ℕ
 receiver_period q = q.period q.receiver
-
 abbrev pub receiver_deadline : Queue → ℕ
 receiver_deadline q = q.deadline q.receiver
 
