@@ -1,7 +1,7 @@
 -- What an answer allows. Where a send stored its message, its job can be recorded in a state: queue and task have an entry, and the job can
 -- be counted on. Where a look names a number, that can be counted on too, and its queue is there to be stepped on.
 use Rattle.std.specs.Prelude.{◌*◌, ◌/◌, ◌<◌, ◌≤◌, ◌≡◌}
-use Rattle.common.specs.Words.{ℕ, div-le_self, arith, Bool, true, false, cond, List, refl, sym, ◌∙◌, get_or, ltb, eqb, ltb-false}
+use Rattle.common.specs.Words.{ℕ, div-le_self, arith, Bool, true, false, cond, List, refl, sym, get_or, ltb, eqb, ltb-false}
 use Rattle.model.specs.Model.{last, sender_of}
 use Rattle.calendar.specs.Calendar.{message, slot}
 use Rattle.plan.specs.Limits.{task_limit, queue_limit, last_tick, payload_bytes}
@@ -10,7 +10,7 @@ use Rattle.plan.specs.Sound.{usable}
 use Rattle.plan.specs.Verdicts.{verdict, by_refusal, by_clear}
 use Rattle.slots.specs.Slots.{number_in}
 use Rattle.judge.specs.Taken.{send_taken, sender_fits, ReceiveTaken, receive_taken}
-use Rattle.running.specs.Types.{Number, Slot, Plan, Sent, Received, Verdict}
+use Rattle.running.specs.Types.{Plan, Sent, Received, Verdict}
 use Rattle.running.specs.Calls.{send_answer, receive_lines, receiving_job, next_number, slot_for, found, accepted_receive, look}
 use Rattle.running.specs.Bounds.{window_small}
 use Rattle.running.specs.Outcomes.{send_is_clear}

@@ -23,11 +23,11 @@ view_of (Received.Refused r) m f = []
 
 -- a place: the block of memory, and how far into it
 abbrev pub place_behind : Bor (List ℕ) → ℕ → ℕ × ℕ
-place_behind r k = (r.ptr.0, k + r.ptr.1)
+place_behind r k = (r.ref_ptr.0, k + r.ref_ptr.1)
 
 unfoldable pub place_of : Received → Bor (List ℕ) → Bor (List ℕ) → ℕ × ℕ
 place_of (Received.Message n s) m f =
     cond (filler_fits f.now && slot_inside m.now s.0) (place_behind m (slot_at payload_bytes s.0 + 8)) f.ref_ptr
-place_of (Received.Gap n row) m f = f.ptr
-place_of Received.Empty m f = f.ptr
-place_of (Received.Refused r) m f = f.ptr
+place_of (Received.Gap n row) m f = f.ref_ptr
+place_of Received.Empty m f = f.ref_ptr
+place_of (Received.Refused r) m f = f.ref_ptr
