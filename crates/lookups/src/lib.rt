@@ -8,21 +8,21 @@ use plan::Plan;
 use plan::refusal::{Refusal, Rule};
 use soundness::sound;
 
-#[derive(Drop)]
+#[derive(Clone, Copy)]
 pub enum Numbered {
     Is(Number),
     Refused(Refusal),
 }
 
 // The sender's row and its job.
-#[derive(Drop)]
+#[derive(Clone, Copy)]
 pub enum Origins {
     From(usize, Job),
     Refused(Refusal),
 }
 
 // The first and the last number, the last one below the first where the window is empty.
-#[derive(Drop)]
+#[derive(Clone, Copy)]
 pub enum Window {
     Numbers(Number, Number),
     Refused(Refusal),
