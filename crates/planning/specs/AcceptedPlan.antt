@@ -4,7 +4,7 @@ use Rattle.std.specs.Prelude.{◌<◌, ◌≤◌, ◌&&◌, ◌++◌, ◌⊎◌,
 use Rattle.common.specs.Words.{ℕ, arith, Bool, false, List, inl, inr, refl, sym, ap, ◌∙◌, lt-ltb, ltb-false, leb-true, not-false, ltb, get_or}
 use Rattle.common.specs.Tests.{and_left}
 use Rattle.common.specs.Totals.{only, sum, sum_ext, sum_at}
-use Rattle.common.specs.Table.{table, table_at}
+use Rattle.common.specs.Table.{table_at}
 use Rattle.common.proofs.Rows.{first_bad, first_bad_is}
 use Rattle.model.specs.Model.{hyperperiod}
 use Rattle.model.specs.Source.{Fit, equation3}

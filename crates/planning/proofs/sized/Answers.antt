@@ -1,0 +1,37 @@
+-- `planning::sized`: the sizes are the least ones, and their total decides rule 6.
+use Rattle.std.specs.Prelude.{◌<◌, ◌≤◌}
+use Rattle.common.specs.Words.{lt-ltb, le-ltb}
+use Rattle.common.specs.Totals.{sum}
+use Rattle.plan.specs.Limits.{most_slots}
+use Rattle.places.specs.Places.{least_size}
+use Rattle.places.specs.Laws.{sizes_small, total_is}
+use Rattle.planning.specs.Planning.{sized, slots_judged}
+use Rattle.planning.proofs.sized.Goals as goal
+
+pub total_of-requires : goal.total_of-requires
+total_of-requires c =
+    let k = c in
+    (k.requires.0.queues_fit, rw c.sizes_of-sizes.ensures (sizes_small k.requires.0))
+
+pub returns-then-total_of-gt-MOST_SLOTS : goal.returns-then-total_of-gt-MOST_SLOTS
+unfolding slots_judged
+returns-then-total_of-gt-MOST_SLOTS c =
+    let t = c in
+    let k = t in
+    let e = rw (t.sizes_of-sizes.ensures, total_is k.requires.0) at t.total_of.ensures in
+    let h : most_slots < sum (least_size k.args.table) k.args.table.queues = rw e at c.if-total_of-gt-MOST_SLOTS.true in
+    rw (lt-ltb _ _ h) c.refused.ensures
+
+pub places_of-places-requires : goal.places_of-places-requires
+places_of-places-requires c =
+    let s = c in
+    rw s.sizes_of-sizes.ensures (sizes_small s.requires.0)
+
+pub returns : goal.returns
+unfolding slots_judged sized
+returns c =
+    let t = c in
+    let k = t in
+    let e = rw (t.sizes_of-sizes.ensures, total_is k.requires.0) at t.total_of.ensures in
+    let h : sum (least_size k.args.table) k.args.table.queues ≤ most_slots = rw e at c.if-total_of-gt-MOST_SLOTS.false in
+    rw (le-ltb _ _ h, c.places_of-places.ensures, t.sizes_of-sizes.ensures)
