@@ -1,6 +1,6 @@
--- The periodic-delayed model, after source 000 (Cadoret and others), sections II and III, as document 01 words it. There are definitions
--- only, each under its sentence or equation, and all of them compute. Ticks, jobs and slots count from 0, message numbers from 1; a message
--- is its sender's row i and its job k. Three rules stand alone, because requests change them: `has_deadline`, `precedes`, `wanted_for`.
+-- The periodic-delayed model, after source 000 (Cadoret and others), sections II and III, in document 01's words: definitions that compute.
+-- Ticks, jobs and slots count from 0, message numbers from 1. Requests change three rules: `has_deadline`, `precedes`, `wanted_for`.
+use requests change them: `has_deadline`, `precedes`, `wanted_for`.
 use Rattle.std.specs.Prelude.{◌+◌, ◌-◌, ◌*◌, ◌/◌, ◌%◌, ◌<◌, ◌≤◌, ◌&&◌, ◌≡◌}
 use Rattle.common.specs.Words.{ℕ, zero, suc, Bool, true, cond, not, leb, ltb, eqb}
 use Rattle.common.specs.Terms.{only, sum, most, first_bad}
@@ -32,6 +32,7 @@ pub record Queue : Type 0 where
 
 abbrev pub receiver_period : Queue → ℕ
 receiver_period q = q.period q.receiver
+
 abbrev pub receiver_deadline : Queue → ℕ
 receiver_deadline q = q.deadline q.receiver
 
@@ -41,7 +42,7 @@ pub record Valid (q : Queue) : Type 0 where
   pub deadline_pos : (i : ℕ) → i < q.rows → 1 ≤ q.deadline i
   pub deadline_fits : (i : ℕ) → i < q.rows → q.deadline i ≤ q.period i
 
--- Row i is a sender of the queue: its messages are (i, 0), (i, 1), ..
+-- Row i is a sender of the queue: its messages, by row and job, are (i, 0), (i, 1), ..
 pub record Sender (q : Queue) (i : ℕ) : Type 0 where
   pub row : i < q.rows
   pub on : q.sends i ≡ true
