@@ -1,6 +1,6 @@
 -- Equal deadlines by priority (request b): which of two messages has the lower number; that with one priority all is as by row alone; and
 -- that the rows may be sorted where no two senders with a common deadline have one priority. It leans on the laws of Ties and Permuted.
-use Rattle.std.specs.Prelude.{◌-◌, ◌<◌, ◌≤◌, ◌≡◌}
+use Rattle.std.specs.Prelude.{◌<◌, ◌≡◌}
 use Rattle.common.specs.Words.{ℕ, ℕ_discrete, true, inr, refl, sym, ap, subst, ◌∙◌}
 use Rattle.common.specs.Tests.{having}
 use Rattle.common.specs.Totals.{sum, only_eq, sum_ext}

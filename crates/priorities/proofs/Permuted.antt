@@ -1,7 +1,7 @@
 -- A queue whose rows stand in another order. Releases, deadlines, windows and the ticks at which messages are outdated do not hang on the
 -- order of the rows; and where the messages have the same numbers, the queue has the same slots. Priorities are not asked for here.
 use Rattle.std.specs.Prelude.{◌+◌, ◌-◌, ◌*◌, ◌/◌, ◌<◌, ◌≤◌, ◌↔◌, ◌≡◌}
-use Rattle.common.specs.Words.{ℕ, arith, refl, sym, ap, subst, ◌∙◌}
+use Rattle.common.specs.Words.{ℕ, arith, sym, ap, subst, ◌∙◌}
 use Rattle.common.specs.Totals.{sum, sum_ext}
 use Rattle.model.specs.Model.{Queue, Valid, Sender, receiver_period, receiver_deadline, release_of, deadline_of, row_up_to, up_to, due_at, number}
 use Rattle.model.specs.Model.{first, last, wanted_for, hyperperiod, row_messages, messages, slots}
