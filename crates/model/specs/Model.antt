@@ -1,6 +1,5 @@
 -- The periodic-delayed model, after source 000 (Cadoret and others), sections II and III, in document 01's words: definitions that compute.
 -- Ticks, jobs and slots count from 0, message numbers from 1. Requests change three rules: `has_deadline`, `precedes`, `wanted_for`.
-use requests change them: `has_deadline`, `precedes`, `wanted_for`.
 use Rattle.std.specs.Prelude.{◌+◌, ◌-◌, ◌*◌, ◌/◌, ◌%◌, ◌<◌, ◌≤◌, ◌&&◌, ◌≡◌}
 use Rattle.common.specs.Words.{ℕ, zero, suc, Bool, true, cond, not, leb, ltb, eqb}
 use Rattle.common.specs.Terms.{only, sum, most, first_bad}
