@@ -1,15 +1,15 @@
 -- Laws of declarations: what the code does one after another is what the rules say, and how far they go.
-use Rattle.std.specs.Prelude.{◌+◌, ◌≡◌}
-use Rattle.common.specs.Words.{ℕ, arith, Bool, true, false, cond, List, refl, sym, ap, ◌∙◌}
+use Rattle.std.specs.Prelude.{◌≡◌}
+use Rattle.common.specs.Words.{ℕ, arith, true, List, refl, ap, ◌∙◌}
 use Rattle.words.specs.Kinds.{ENDED, THREAD, PROCESS, IMPLEMENTATION, EXTENDS, END, DOT, SEMICOLON}
 use Rattle.tokens.specs.Tokens.{Token}
 use Rattle.steps.specs.Steps.{Step, On, Stop, ◌⟫◌, head, is, the, name, own}
 use Rattle.steps.specs.Lifted.{first, first_kind}
-use Rattle.steps.specs.Laws.{going, going_before, Moved, Moves, moved_then, moved_less, moves_the, moves_name, moves_own, moves_optional, weighs}
+use Rattle.steps.specs.Laws.{going, going_before, Moves, moved_then, moved_less, moves_the, moves_name, moves_own, moves_optional, weighs}
 use Rattle.steps.specs.Laws.{optional_on, optional_off, is_on, is_off}
-use Rattle.phrases.specs.Phrases.{scopes, classifier}
+use Rattle.phrases.specs.Phrases.{classifier}
 use Rattle.phrases.specs.Laws.{classifier_moves}
-use Rattle.rows.specs.Rows.{Row, a_process, a_type, an_implementation, process_row, type_row, implementation_row}
+use Rattle.rows.specs.Rows.{a_process, a_type, an_implementation, process_row, type_row, implementation_row}
 use Rattle.rows.specs.Said.{Said, Rule, quiet, onward, ◌⨟◌, put}
 use Rattle.rows.specs.States.{State, does}
 use Rattle.rows.specs.Laws.{MovesOn, by_went, moved_onward, moves_quiet, moves_put, does_then, does_then_at, does_then_going}

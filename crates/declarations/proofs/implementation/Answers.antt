@@ -1,8 +1,8 @@
 -- `declarations::implementation`.
 use Rattle.std.specs.Prelude.{◌≡◌}
-use Rattle.common.specs.Words.{rules, ℕ, List, refl, sym, ap, ◌∙◌}
+use Rattle.common.specs.Words.{ap, ◌∙◌}
 use Rattle.words.specs.Kinds.{IMPLEMENTATION, DOT}
-use Rattle.tokens.specs.Tokens.{Token, from}
+use Rattle.tokens.specs.Tokens.{from}
 use Rattle.steps.specs.Steps.{◌⟫◌, head, the, name}
 use Rattle.steps.specs.Lifted.{lift, first}
 use Rattle.steps.specs.Laws.{token_there}

@@ -1,6 +1,4 @@
 -- `declarations::implementation_end`.
-use Rattle.std.specs.Prelude.{◌≡◌}
-use Rattle.common.specs.Words.{rules, ℕ, List, refl, sym, ap, ◌∙◌}
 use Rattle.tokens.specs.Tokens.{from}
 use Rattle.steps.specs.Steps.{head}
 use Rattle.steps.specs.Lifted.{lift}

@@ -1,6 +1,5 @@
 -- `declarations::list_in`.
-use Rattle.std.specs.Prelude.{◌≡◌}
-use Rattle.common.specs.Words.{rules, ℕ, List, refl, sym, ap, ◌∙◌}
+use Rattle.common.specs.Words.{sym, ap, ◌∙◌}
 use Rattle.phrases.specs.Phrases.{nothing}
 use Rattle.rows.specs.States.{State, state_of, does}
 use Rattle.rows.specs.Laws.{does_quiet}

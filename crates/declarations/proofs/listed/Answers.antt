@@ -1,7 +1,6 @@
 -- `declarations::listed`.
-use Rattle.std.specs.Prelude.{◌≡◌}
-use Rattle.common.specs.Words.{rules, ℕ, List, refl, sym, ap, ◌∙◌}
-use Rattle.rows.specs.States.{State, state_of, does}
+use Rattle.common.specs.Words.{◌∙◌}
+use Rattle.rows.specs.States.{state_of}
 use Rattle.declarations.specs.SectionLaws.{listed_features, listed_subcomponents, listed_connections}
 use Rattle.declarations.proofs.listed.Goals as goal
 

@@ -1,6 +1,5 @@
 -- `declarations::maybe_extends`.
-use Rattle.std.specs.Prelude.{◌≡◌}
-use Rattle.common.specs.Words.{rules, ℕ, List, refl, sym, ap, ◌∙◌}
+use Rattle.common.specs.Words.{sym, ◌∙◌}
 use Rattle.steps.specs.Lifted.{lift}
 use Rattle.declarations.specs.Laws.{extends_on, extends_off}
 use Rattle.declarations.proofs.maybe_extends.Goals as goal

@@ -1,10 +1,9 @@
 -- `declarations::properties_of`.
 use Rattle.std.specs.Prelude.{◌≡◌}
-use Rattle.common.specs.Words.{rules, ℕ, List, refl, sym, ap, ◌∙◌}
-use Rattle.steps.specs.declared.Went.{Went}
+use Rattle.common.specs.Words.{ap, ◌∙◌}
 use Rattle.rows.specs.States.{State, state_of, does}
 use Rattle.rows.specs.Laws.{fresh, with_props, does_adding, stopped_stays}
-use Rattle.rows.specs.Said.{adding, merged}
+use Rattle.rows.specs.Said.{merged}
 use Rattle.properties.specs.Properties.{of_thread, properties_in}
 use Rattle.declarations.specs.Sections.{properties_of}
 use Rattle.declarations.specs.SectionLaws.{properties_noted, properties_added}

@@ -1,10 +1,8 @@
 -- `declarations::section`.
-use Rattle.std.specs.Prelude.{◌≡◌}
-use Rattle.common.specs.Words.{rules, ℕ, List, refl, sym, ap, ◌∙◌}
+use Rattle.common.specs.Words.{sym, ◌∙◌}
 use Rattle.phrases.specs.Phrases.{skipped}
-use Rattle.rows.specs.States.{State, state_of, does}
+use Rattle.rows.specs.States.{state_of}
 use Rattle.rows.specs.Laws.{does_quiet}
-use Rattle.declarations.specs.Sections.{list_kind, list_in}
 use Rattle.declarations.specs.SectionLaws.{section_list, section_properties, section_skipped}
 use Rattle.declarations.proofs.section.Goals as goal
 

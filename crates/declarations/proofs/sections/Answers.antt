@@ -1,9 +1,6 @@
 -- `declarations::sections`: what is left to read says what the whole does.
-use Rattle.std.specs.Prelude.{◌≡◌}
-use Rattle.common.specs.Words.{rules, ℕ, List, refl, sym, ap, ◌∙◌, length}
-use Rattle.steps.specs.Lifted.{lift, size}
-use Rattle.rows.specs.Said.{repeat}
-use Rattle.rows.specs.States.{State, state_of, does}
+use Rattle.common.specs.Words.{rules, refl, ap, ◌∙◌}
+use Rattle.rows.specs.States.{State, state_of}
 use Rattle.rows.specs.Laws.{repeat_on, repeat_off, repeat_less}
 use Rattle.declarations.specs.Sections.{begins, section, sections}
 use Rattle.declarations.specs.SectionLaws.{begins_on, begins_off, section_advances}

@@ -1,12 +1,10 @@
 -- `declarations::sections`: what is left to read says what the whole does.
 use Rattle.std.specs.Prelude.{◌≡◌}
-use Rattle.common.specs.Words.{rules, ℕ, List, refl, sym, ap, ◌∙◌, length}
+use Rattle.common.specs.Words.{length}
 use Rattle.steps.specs.Lifted.{lift, size}
 use Rattle.rows.specs.Said.{repeat}
-use Rattle.rows.specs.States.{State, state_of, does}
-use Rattle.rows.specs.Laws.{repeat_on, repeat_off, repeat_less}
-use Rattle.declarations.specs.Sections.{begins, section, sections}
-use Rattle.declarations.specs.SectionLaws.{begins_on, begins_off, section_advances}
+use Rattle.rows.specs.States.{state_of, does}
+use Rattle.declarations.specs.Sections.{begins, section}
 use Rattle.declarations.proofs.sections.Given as goal
 
 abbrev pub invariant-loop-rows : goal.invariant-loop-rows

@@ -1,7 +1,5 @@
 -- `declarations::thread_implementation`.
-use Rattle.std.specs.Prelude.{◌≡◌}
-use Rattle.common.specs.Words.{rules, ℕ, List, refl, sym, ap, ◌∙◌}
-use Rattle.steps.specs.Lifted.{lift, first}
+use Rattle.common.specs.Words.{rules, ℕ, List, refl, ap, ◌∙◌}
 use Rattle.rows.specs.Rows.{Row, implementation_row}
 use Rattle.rows.specs.Said.{put}
 use Rattle.rows.specs.States.{State, state_of, does}

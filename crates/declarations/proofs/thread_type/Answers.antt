@@ -1,9 +1,9 @@
 -- `declarations::thread_type`.
 use Rattle.std.specs.Prelude.{◌≡◌}
-use Rattle.common.specs.Words.{rules, ℕ, List, refl, sym, ap, ◌∙◌}
-use Rattle.tokens.specs.Tokens.{Token, from}
+use Rattle.common.specs.Words.{rules, ℕ, List, refl, ap, ◌∙◌}
+use Rattle.tokens.specs.Tokens.{from}
 use Rattle.steps.specs.Steps.{head}
-use Rattle.steps.specs.Lifted.{lift, first}
+use Rattle.steps.specs.Lifted.{first}
 use Rattle.steps.specs.Laws.{token_there}
 use Rattle.rows.specs.Rows.{Row, a_type, type_row}
 use Rattle.rows.specs.Said.{quiet, put}
