@@ -1,5 +1,5 @@
 -- `texts::chosen`.
-use Rattle.common.specs.Words.{rules, sym, ◌∙◌}
+use Rattle.common.specs.Words.{sym, ◌∙◌}
 use Rattle.phrases.specs.Phrases.{annex}
 use Rattle.rows.specs.States.{state_of}
 use Rattle.rows.specs.Laws.{does_quiet}

@@ -1,5 +1,5 @@
 -- `texts::clause`.
-use Rattle.common.specs.Words.{rules, sym, ◌∙◌}
+use Rattle.common.specs.Words.{sym, ◌∙◌}
 use Rattle.steps.specs.Lifted.{lift}
 use Rattle.texts.specs.Laws.{clause_with, clause_properties, clause_word}
 use Rattle.texts.proofs.clause.Goals as goal

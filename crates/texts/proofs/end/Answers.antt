@@ -1,5 +1,5 @@
 -- `texts::end`.
-use Rattle.common.specs.Words.{rules, sym, ◌∙◌}
+use Rattle.common.specs.Words.{sym, ◌∙◌}
 use Rattle.steps.specs.Lifted.{lift}
 use Rattle.texts.specs.Laws.{finished_on, finished_off}
 use Rattle.texts.proofs.end.Goals as goal

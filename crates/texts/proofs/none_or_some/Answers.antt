@@ -1,5 +1,5 @@
 -- `texts::none_or_some`.
-use Rattle.common.specs.Words.{rules, sym, ◌∙◌}
+use Rattle.common.specs.Words.{sym, ◌∙◌}
 use Rattle.steps.specs.Lifted.{lift}
 use Rattle.texts.specs.Laws.{none_on, none_off}
 use Rattle.texts.proofs.none_or_some.Goals as goal

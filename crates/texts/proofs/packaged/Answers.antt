@@ -1,6 +1,6 @@
 -- `texts::packaged`.
 use Rattle.std.specs.Prelude.{◌≡◌}
-use Rattle.common.specs.Words.{rules, ap, ◌∙◌}
+use Rattle.common.specs.Words.{ap, ◌∙◌}
 use Rattle.rows.specs.Said.{quiet}
 use Rattle.rows.specs.States.{State, state_of, does}
 use Rattle.rows.specs.Laws.{does_quiet}

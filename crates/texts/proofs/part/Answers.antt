@@ -1,5 +1,5 @@
 -- `texts::part`.
-use Rattle.common.specs.Words.{rules, ◌∙◌}
+use Rattle.common.specs.Words.{◌∙◌}
 use Rattle.rows.specs.States.{state_of}
 use Rattle.rows.specs.Laws.{does_quiet}
 use Rattle.texts.specs.Texts.{clause}

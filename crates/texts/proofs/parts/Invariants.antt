@@ -1,11 +1,9 @@
 -- `texts::parts`: what is left to read says what the whole does.
 use Rattle.std.specs.Prelude.{◌≡◌}
-use Rattle.common.specs.Words.{rules, refl, ap, ◌∙◌, length}
+use Rattle.common.specs.Words.{length}
 use Rattle.steps.specs.Lifted.{lift, size}
-use Rattle.rows.specs.States.{State, state_of, does}
-use Rattle.rows.specs.Laws.{repeat_on, repeat_off, repeat_less}
-use Rattle.texts.specs.Texts.{begins_part, part, parts}
-use Rattle.texts.specs.Laws.{part_on, part_off, part_advances}
+use Rattle.rows.specs.States.{state_of, does}
+use Rattle.texts.specs.Texts.{parts}
 use Rattle.texts.proofs.parts.Given as goal
 
 abbrev pub invariant-loop-rows : goal.invariant-loop-rows

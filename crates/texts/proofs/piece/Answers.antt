@@ -1,5 +1,5 @@
 -- `texts::piece`.
-use Rattle.common.specs.Words.{rules, sym, ◌∙◌}
+use Rattle.common.specs.Words.{sym, ◌∙◌}
 use Rattle.rows.specs.States.{state_of}
 use Rattle.texts.specs.Laws.{piece_package, piece_declaration}
 use Rattle.texts.proofs.piece.Goals as goal

@@ -1,11 +1,9 @@
 -- `texts::pieces`: what is left to read says what the whole does.
 use Rattle.std.specs.Prelude.{◌≡◌}
-use Rattle.common.specs.Words.{rules, refl, ap, ◌∙◌, length}
+use Rattle.common.specs.Words.{length}
 use Rattle.steps.specs.Lifted.{lift, size}
-use Rattle.rows.specs.States.{State, state_of, does}
-use Rattle.rows.specs.Laws.{repeat_on, repeat_off, repeat_less}
-use Rattle.texts.specs.Texts.{begins_piece, piece, pieces}
-use Rattle.texts.specs.Laws.{piece_on, piece_off, piece_advances}
+use Rattle.rows.specs.States.{state_of, does}
+use Rattle.texts.specs.Texts.{pieces}
 use Rattle.texts.proofs.pieces.Given as goal
 
 abbrev pub invariant-loop-rows : goal.invariant-loop-rows

@@ -1,6 +1,6 @@
 -- `texts::read`.
 use Rattle.std.specs.Prelude.{◌≡◌}
-use Rattle.common.specs.Words.{rules, ap, ◌∙◌}
+use Rattle.common.specs.Words.{ap, ◌∙◌}
 use Rattle.rows.specs.Said.{quiet}
 use Rattle.rows.specs.States.{State, state_of, does, begun}
 use Rattle.rows.specs.Laws.{does_quiet}

@@ -1,5 +1,5 @@
 -- `texts::thread_by`.
-use Rattle.common.specs.Words.{rules, sym, ◌∙◌}
+use Rattle.common.specs.Words.{sym, ◌∙◌}
 use Rattle.rows.specs.States.{state_of}
 use Rattle.texts.specs.Laws.{thread_by_implementation, thread_by_group, thread_by_type}
 use Rattle.texts.proofs.thread_by.Goals as goal
