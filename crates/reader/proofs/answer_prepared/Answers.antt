@@ -1,5 +1,5 @@
 -- `reader::answer_prepared`.
-use Rattle.common.specs.Words.{rules, ◌∙◌}
+use Rattle.common.specs.Words.{◌∙◌}
 use Rattle.reader.specs.Laws.{answer_refused, answer_sound}
 use Rattle.reader.proofs.answer_prepared.Goals as goal
 

@@ -1,5 +1,5 @@
 -- `reader::least_fault`.
-use Rattle.common.specs.Words.{rules, ◌∙◌}
+use Rattle.common.specs.Words.{◌∙◌}
 use Rattle.reader.specs.Laws.{end_stopped, end_long, end_judged}
 use Rattle.reader.proofs.least_fault.Goals as goal
 

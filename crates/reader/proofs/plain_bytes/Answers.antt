@@ -1,5 +1,5 @@
 -- `reader::plain_bytes`.
-use Rattle.common.specs.Words.{rules, arith, sym, ◌∙◌, length-take-le}
+use Rattle.common.specs.Words.{arith, sym, ◌∙◌, length-take-le}
 use Rattle.reader.specs.Laws.{plain_front}
 use Rattle.reader.proofs.plain_bytes.Goals as goal
 

@@ -1,5 +1,5 @@
 -- `reader::read_plain`.
-use Rattle.common.specs.Words.{rules, ◌∙◌, length}
+use Rattle.common.specs.Words.{◌∙◌, length}
 use Rattle.reader.specs.Reader.{most_bytes}
 use Rattle.reader.specs.Laws.{fitting_read, fitting_plain, read_answer}
 use Rattle.reader.proofs.read_plain.Goals as goal

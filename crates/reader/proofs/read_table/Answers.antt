@@ -1,5 +1,5 @@
 -- `reader::read_table`.
-use Rattle.common.specs.Words.{rules, true, sym, ap, ◌∙◌, length, length-take-le, not-true, not-false}
+use Rattle.common.specs.Words.{sym, ap, ◌∙◌, length-take-le}
 use Rattle.findings.specs.declared.Answer.TheVariants.{NoRoom}
 use Rattle.findings.specs.declared.Table.{Table}
 use Rattle.findings.specs.Findings.{answered}

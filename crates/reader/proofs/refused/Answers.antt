@@ -1,5 +1,4 @@
 -- `reader::refused`.
-use Rattle.common.specs.Words.{rules}
 use Rattle.reader.proofs.refused.Goals as goal
 
 pub returns : goal.returns

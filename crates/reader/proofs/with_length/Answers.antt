@@ -1,5 +1,4 @@
 -- `reader::with_length`.
-use Rattle.common.specs.Words.{rules, not-true, not-false}
 use Rattle.steps.specs.Faults.{worst}
 use Rattle.reader.proofs.with_length.Goals as goal
 
