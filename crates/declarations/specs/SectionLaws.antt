@@ -1,16 +1,15 @@
 -- Laws of sections: which one begins, what the code does in it, and how far it goes.
 use Rattle.std.specs.Prelude.{◌≡◌}
-use Rattle.common.specs.Words.{ℕ, suc, arith, Bool, true, false, true≢false, cond, List, refl, sym, ap, ◌∙◌, eqb, eq-eqb, ne_eqb, eqb-true}
-use Rattle.words.specs.Kinds.{ENDED, FEATURES, SUBCOMPONENTS, CONNECTIONS, PROPERTIES, MODES}
-use Rattle.tokens.specs.Tokens.{Token}
+use Rattle.common.specs.Words.{ℕ, Bool, true, false, true≢false, cond, refl, sym, ap, ◌∙◌, eqb, eq-eqb, ne_eqb}
+use Rattle.words.specs.Kinds.{ENDED, FEATURES, SUBCOMPONENTS, PROPERTIES}
 use Rattle.tokens.specs.Laws.{cases}
-use Rattle.steps.specs.Steps.{Step, On, Stop, next, is, the}
+use Rattle.steps.specs.Steps.{Step, next, is, the}
 use Rattle.steps.specs.Lifted.{first_kind, holds}
-use Rattle.steps.specs.Laws.{going, Moved, moved_less, moves_the, weighs, kind_on, kind_off}
+use Rattle.steps.specs.Laws.{Moved, moved_less, moves_the, weighs, kind_on, kind_off}
 use Rattle.phrases.specs.Phrases.{section_kind, skipped}
 use Rattle.phrases.specs.Laws.{skipped_moves}
 use Rattle.rows.specs.Rows.{a_process, a_type}
-use Rattle.rows.specs.Said.{Said, Rule, quiet, ◌⨟◌, repeat, adding}
+use Rattle.rows.specs.Said.{Said, Rule, quiet, adding}
 use Rattle.rows.specs.States.{State, does}
 use Rattle.rows.specs.Laws.{MovesOn, AdvancesOn, moved_onward, moves_adding, moves_repeat, by_went, does_then}
 use Rattle.properties.specs.Properties.{of_thread, of_process, none_or, properties_in}

@@ -1,6 +1,6 @@
 -- Promise 5: Listing 1 of source 000, as printed less its line numbers, gives Table A. The definitions compute it.
 use Rattle.std.specs.Prelude.{◌∷◌, ◌++◌, ◌≡◌}
-use Rattle.common.specs.Words.{ℕ, true, false, List, [], refl, replicate}
+use Rattle.common.specs.Words.{ℕ, true, false, List, refl, replicate}
 use Rattle.words.specs.Letters.{letters, words_by, same}
 use Rattle.findings.specs.declared.Answer.TheVariants.{Sound}
 use Rattle.findings.specs.declared.Table.{Table}
