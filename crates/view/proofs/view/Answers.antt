@@ -1,9 +1,8 @@
 -- `view`: one law for each way out, over the answer and the two references.
-use Rattle.common.specs.Words.{◌≡◌, refl, ap, ◌∙◌, Bool, true, false, cond, ◌&&◌, List, [], ◌∷◌, ℕ, ◌+◌, ◌*◌, ◌-◌, ◌<◌, ◌≤◌, arith}
+use Rattle.std.specs.Prelude.{◌≡◌, ◌&&◌, ◌+◌, ◌*◌, ◌-◌, ◌<◌, ◌≤◌}
+use Rattle.common.specs.Words.{refl, ap, ◌∙◌, Bool, true, false, cond, List, [], ℕ, arith}
 use Rattle.common.specs.Words.{length, take}
-use Rattle.common.specs.Words.{drop, rules, ne_eqb, eq-eqb, lt-leb, le-leb}
-use types.Run.{OneOf, miss}
-use denote.Enum.Declared.{tag_of}
+use Rattle.common.specs.Words.{drop, ne_eqb, eq-eqb, lt-leb, le-leb}
 use denote.Ref.{Bor}
 use Rattle.common.specs.Tests.{tests}
 use Rattle.calendar.specs.declared.Number.{Number}
@@ -12,9 +11,7 @@ use Rattle.plan.specs.Limits.{payload_bytes, slot_bytes}
 use Rattle.slots.specs.Slots.{slot_at, payload_in}
 use Rattle.running.specs.View.{view_of, place_of, place_behind, slot_inside, filler_fits}
 use Rattle.running.specs.declared.Received.{Received}
-use Rattle.running.specs.contracts.Received.{the_type}
-use Rattle.view.proofs.view.Statement.{statement}
-use Rattle.view.proofs.view.Tie as tie
+use Rattle.view.proofs.view.Goals as goal
 
 -- a filler that does not fit
 unfit : (a : Received) (m f : Bor (List ℕ)) → filler_fits f.now ≡ false → ([] ≡ view_of a m.now f.now) × (f.ref_ptr ≡ place_of a m f)
@@ -25,12 +22,11 @@ unfit Received.Empty m f e = (refl, refl)
 unfit (Received.Refused r) m f e = (refl, refl)
 
 -- an answer that is neither a message nor a gap
-rest : (a : Received) (m f : Bor (List ℕ)) → OneOf (1 ∷ 2 ∷ 3 ∷ []) (tag_of the_type a) →
-    OneOf (0 ∷ 2 ∷ 3 ∷ []) (tag_of the_type a) →
-    ([] ≡ view_of a m.now f.now) × (f.ref_ptr ≡ place_of a m f)
+rest : (a : Received) (m f : Bor (List ℕ)) → ((n : Number) (s : Slot) → a ≡ Received.Message n s → ⊥) →
+    ((n : Number) (row : ℕ) → a ≡ Received.Gap n row → ⊥) → ([] ≡ view_of a m.now f.now) × (f.ref_ptr ≡ place_of a m f)
 unfolding view_of place_of
-rest (Received.Message n s) m f k l = absurd (miss (1 ∷ 2 ∷ 3 ∷ []) 0 tt k)
-rest (Received.Gap n row) m f k l = absurd (miss (0 ∷ 2 ∷ 3 ∷ []) 1 tt l)
+rest (Received.Message n s) m f k l = absurd (k n s refl)
+rest (Received.Gap n row) m f k l = absurd (l n row refl)
 rest Received.Empty m f k l = (refl, refl)
 rest (Received.Refused r) m f k l = (refl, refl)
 
@@ -50,52 +46,29 @@ module _ (a : Received) (n : Number) (s : Slot) (m f : Bor (List ℕ)) (is : a �
   unfolding view_of place_of
   inside d e = rw (is, eq-eqb _ _ d, le-leb _ _ e) (refl, refl)
 
-returns : tie.Need-returns
-returns c =
-    let a = c.before.before.args in
-    unfit a.answer a.memory a.filler (ne_eqb _ _ c.before.if1.true)
+pub returns-then-filler-ne-PAYLOAD_BYTES : goal.returns-then-filler-ne-PAYLOAD_BYTES
+returns-then-filler-ne-PAYLOAD_BYTES c =
+    let a = c.args in
+    unfit a.answer a.memory a.filler (ne_eqb _ _ c.if-filler-ne-PAYLOAD_BYTES.true)
 
-returns-2 : tie.Need-returns-2
-returns-2 c =
-    let a = c.before.before.before.before.before.before.args in
-    let g = c.before.before.before.answer.given in
-    outside a.answer g.0.0 g.0.1.0 a.memory a.filler g.1 (omega arith)
+pub returns-then-memory-s : goal.returns-then-memory-s
+returns-then-memory-s c =
+    let a = c.args in
+    let g = c.in-Message in
+    outside a.answer g.field-0 g.slot a.memory a.filler g.is (omega arith)
 
-returns-3 : tie.Need-returns-3
-returns-3 c =
-    let a = c.before.before.before.before.before.before.args in
-    let g = c.before.before.before.answer.given in
-    let s = g.0.1.0.0 in
+pub returns-in-Message : goal.returns-in-Message
+returns-in-Message c =
+    let a = c.args in
+    let g = c.in-Message in
+    let s = g.slot.0 in
     let n : s * 32 + 32 - (s * 32 + 8) ≡ 24 = omega arith in
-    let i = inside a.answer g.0.0 g.0.1.0 a.memory a.filler g.1 (search rules) (omega arith) in
+    let i = inside a.answer g.field-0 g.slot a.memory a.filler g.is c.if-filler-ne-PAYLOAD_BYTES.false (omega arith) in
     (ap (λ (k : ℕ). take k (drop (s * 32 + 8) a.memory.now)) n ∙ i.0, i.1)
 
-returns-4 : tie.Need-returns-4
+pub returns-in-Gap : goal.returns-in-Gap
 unfolding view_of place_of
-returns-4 c = search (tests, c.enum_told.given.1)
+returns-in-Gap c = search (tests, c.in-Gap.is)
 
-returns-5 : tie.Need-returns-5
-returns-5 c =
-    let a = c.before.before.before.before.args in
-    rest a.answer a.memory a.filler c.before.before.match.keys2 c.before.match2.keys2
-
-pub view_spec : {M : Type 1} → statement M
-view_spec =
-    tie.close
-    (tie.spec
-    (λ c. search rules)
-    returns
-    (λ c. search rules)
-    (λ c. search rules)
-    returns-2
-    (λ c. search rules)
-    (λ c. search rules)
-    (λ c. search rules)
-    (λ c. search rules)
-    (λ c. search rules)
-    (λ c. search rules)
-    returns-3
-    (λ c. search rules)
-    returns-4
-    (λ c. search rules)
-    returns-5)
+pub returns : goal.returns
+returns c = rest c.args.answer c.args.memory c.args.filler c.in_default.not-Message c.in_default-answer.not-Gap
