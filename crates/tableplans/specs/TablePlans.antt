@@ -1,7 +1,6 @@
 -- Document 02, request a: a text's table through planning, by what reading the text came to.
 use Rattle.plan.specs.Plan.{zeros}
 use Rattle.plan.specs.Square.{square_of}
-use Rattle.plan.specs.declared.Plan.{Plan}
 use Rattle.planning.specs.Planning.{plan_of}
 use Rattle.planning.specs.declared.Answer.{Answer as PlanningAnswer}
 use Rattle.planning.specs.declared.Planned.{Planned}
