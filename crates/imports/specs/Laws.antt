@@ -1,7 +1,7 @@
 -- Laws of an import: what a sound text's import is, rule 1 for a text that is too large, zeros where there is no table or no plan, and that the
 -- contract determines the outcome.
 use Rattle.std.specs.Prelude.{◌<◌, ◌⊎◌, ◌≡◌}
-use Rattle.common.specs.Words.{ℕ, arith, Bool, true, false, cond, List, inl, inr, refl, sym, ap, ◌∙◌, eqb}
+use Rattle.common.specs.Words.{ℕ, arith, Bool, true, false, cond, List, inl, inr, refl, ap, ◌∙◌, eqb}
 use Rattle.common.specs.Tests.{true_or_false}
 use Rattle.plan.specs.Facts.{counts_iff}
 use Rattle.plan.specs.Limits.{task_limit, queue_limit}
