@@ -20,22 +20,19 @@ nonzero_div-factor c =
 pub returns-then-limit-a : goal.returns-then-limit-a
 unfolding lcm
 returns-then-limit-a c =
-    let k = c in
-    let a = k.args in
+    let a = c.args in
     let e = c.gcd.ensures in
-    let h : a.limit < lcm a.a a.b = rw e at (over a.limit a.a _ k.requires.0 c.if-limit-a.true) in
+    let h : a.limit < lcm a.a a.b = rw e at (over a.limit a.a _ c.requires.0 c.if-limit-a.true) in
     search tests
 
 pub overflow_mul-result : goal.overflow_mul-result
 overflow_mul-result c =
-    let k = c in
-    omega (arith, within k.args.limit k.args.a _ k.requires.0 c.if-limit-a.false)
+    omega (arith, within c.args.limit c.args.a _ c.requires.0 c.if-limit-a.false)
 
 pub returns : goal.returns
 unfolding lcm
 returns c =
-    let k = c in
-    let a = k.args in
+    let a = c.args in
     let e = c.gcd.ensures in
-    let h : lcm a.a a.b ≤ a.limit = rw e at (within a.limit a.a _ k.requires.0 c.if-limit-a.false) in
+    let h : lcm a.a a.b ≤ a.limit = rw e at (within a.limit a.a _ c.requires.0 c.if-limit-a.false) in
     rw e (search tests)

@@ -8,10 +8,8 @@ short-requires c = slots_fit ((sound_iff _).0 c.requires)
 
 pub returns-then-short : goal.returns-then-short
 returns-then-short c =
-    let e = c in
-    rw (eight _ e.requires _ e.short.ensures, c.if-short.true) c.refused.ensures
+    rw (eight _ c.requires _ c.short.ensures, c.if-short.true) c.refused.ensures
 
 pub returns : goal.returns
 returns c =
-    let e = c in
-    rw (eight _ e.requires _ e.short.ensures, c.if-short.false)
+    rw (eight _ c.requires _ c.short.ensures, c.if-short.false)

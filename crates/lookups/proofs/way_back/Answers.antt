@@ -12,59 +12,44 @@ returns-then-not-sound c = simp (as_tested c.sound.ensures c.if-not-sound.true)
 pub returns-then-plan-queue : goal.returns-then-plan-queue
 unfolding origins_of
 returns-then-plan-queue c =
-    let k = c in
-    simp (as_tested k.sound.ensures k.if-not-sound.false, le-ltb _ _ c.if-plan-queue.true)
+    simp (as_tested c.sound.ensures c.if-not-sound.false, le-ltb _ _ c.if-plan-queue.true)
 
 pub returns-then-n-eq0 : goal.returns-then-n-eq0
 unfolding origins_of
 returns-then-n-eq0 c =
-    let w = c in
-    let k = w in
-    simp (as_tested k.sound.ensures k.if-not-sound.false, lt-ltb _ _ w.if-plan-queue.false, eq-eqb _ _ c.if-n-eq0.true)
+    simp (as_tested c.sound.ensures c.if-not-sound.false, lt-ltb _ _ c.if-plan-queue.false, eq-eqb _ _ c.if-n-eq0.true)
 
 pub up_to-requires : goal.up_to-requires
 up_to-requires c =
-    let w = c in
-    let k = w in
-    let a = k.args in
-    (usable ((sound_iff a.plan).0 (as_tested k.sound.ensures k.if-not-sound.false)) a.queue w.if-plan-queue.false, omega arith)
+    let a = c.args in
+    (usable ((sound_iff a.plan).0 (as_tested c.sound.ensures c.if-not-sound.false)) a.queue c.if-plan-queue.false, omega arith)
 
 pub returns-then-up_to-n : goal.returns-then-up_to-n
 unfolding origins_of
 returns-then-up_to-n c =
-    let x = c in
-    let w = x in
-    let k = w in
     let l = c.if-up_to-n.true in
     simp (
-      as_tested k.sound.ensures k.if-not-sound.false,
-      lt-ltb _ _ w.if-plan-queue.false,
-      ne_eqb _ _ x.if-n-eq0.false,
+      as_tested c.sound.ensures c.if-not-sound.false,
+      lt-ltb _ _ c.if-plan-queue.false,
+      ne_eqb _ _ c.if-n-eq0.false,
       rw c.up_to.ensures at (lt-ltb _ _ l),
     )
 
 pub origin_of-origin-requires : goal.origin_of-origin-requires
 origin_of-origin-requires c =
-    let x = c in
-    let w = x in
-    let k = w in
-    let a = k.args in (
-      usable ((sound_iff a.plan).0 (as_tested k.sound.ensures k.if-not-sound.false)) a.queue w.if-plan-queue.false,
-      pos_of_ne-zero x.if-n-eq0.false,
+    let a = c.args in (
+      usable ((sound_iff a.plan).0 (as_tested c.sound.ensures c.if-not-sound.false)) a.queue c.if-plan-queue.false,
+      pos_of_ne-zero c.if-n-eq0.false,
       rw c.up_to.ensures at c.if-up_to-n.false,
     )
 
 pub returns : goal.returns
 unfolding origins_of
 returns c =
-    let y = c in
-    let x = y in
-    let w = x in
-    let k = w in
     rw c.origin_of-origin.ensures
     (simp (
-      as_tested k.sound.ensures k.if-not-sound.false,
-      lt-ltb _ _ w.if-plan-queue.false,
-      ne_eqb _ _ x.if-n-eq0.false,
-      rw y.up_to.ensures at (le-ltb _ _ y.if-up_to-n.false),
+      as_tested c.sound.ensures c.if-not-sound.false,
+      lt-ltb _ _ c.if-plan-queue.false,
+      ne_eqb _ _ c.if-n-eq0.false,
+      rw c.up_to.ensures at (le-ltb _ _ c.if-up_to-n.false),
     ))

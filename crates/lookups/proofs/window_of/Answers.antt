@@ -12,51 +12,39 @@ returns-then-not-sound c = simp (as_tested c.sound.ensures c.if-not-sound.true)
 pub returns-then-plan-queue : goal.returns-then-plan-queue
 unfolding window_of
 returns-then-plan-queue c =
-    let k = c in
-    simp (as_tested k.sound.ensures k.if-not-sound.false, le-ltb _ _ c.if-plan-queue.true)
+    simp (as_tested c.sound.ensures c.if-not-sound.false, le-ltb _ _ c.if-plan-queue.true)
 
 pub release_past-requires : goal.release_past-requires
 release_past-requires c =
-    let k = c in
-    let a = k.args in
-    usable ((sound_iff a.plan).0 (as_tested k.sound.ensures k.if-not-sound.false)) a.queue c.if-plan-queue.false
+    let a = c.args in
+    usable ((sound_iff a.plan).0 (as_tested c.sound.ensures c.if-not-sound.false)) a.queue c.if-plan-queue.false
 
 pub returns-then-release_past : goal.returns-then-release_past
 unfolding window_of
 returns-then-release_past c =
-    let w = c in
-    let k = w in
-    simp (as_tested k.sound.ensures k.if-not-sound.false, lt-ltb _ _ w.if-plan-queue.false, sym c.release_past.ensures ∙ c.if-release_past.true)
+    simp (as_tested c.sound.ensures c.if-not-sound.false, lt-ltb _ _ c.if-plan-queue.false, sym c.release_past.ensures ∙ c.if-release_past.true)
 
 pub first_number-first-requires : goal.first_number-first-requires
 first_number-first-requires c =
-    let w = c in
-    let k = w in
-    let a = k.args in (
-      usable ((sound_iff a.plan).0 (as_tested k.sound.ensures k.if-not-sound.false)) a.queue w.if-plan-queue.false,
+    let a = c.args in (
+      usable ((sound_iff a.plan).0 (as_tested c.sound.ensures c.if-not-sound.false)) a.queue c.if-plan-queue.false,
       ltb-false _ _ (sym c.release_past.ensures ∙ c.if-release_past.false),
     )
 
 pub last_number-last-requires : goal.last_number-last-requires
 last_number-last-requires c =
-    let r = c in
-    let w = r in
-    let k = w in
-    let a = k.args in (
-      usable ((sound_iff a.plan).0 (as_tested k.sound.ensures k.if-not-sound.false)) a.queue w.if-plan-queue.false,
-      ltb-false _ _ (sym r.release_past.ensures ∙ r.if-release_past.false),
+    let a = c.args in (
+      usable ((sound_iff a.plan).0 (as_tested c.sound.ensures c.if-not-sound.false)) a.queue c.if-plan-queue.false,
+      ltb-false _ _ (sym c.release_past.ensures ∙ c.if-release_past.false),
     )
 
 pub returns : goal.returns
 unfolding window_of
 returns c =
-    let r = c in
-    let w = r in
-    let k = w in
     simp (
       c.last_number-last.ensures,
       c.first_number-first.ensures,
-      as_tested k.sound.ensures k.if-not-sound.false,
-      lt-ltb _ _ w.if-plan-queue.false,
-      sym r.release_past.ensures ∙ r.if-release_past.false,
+      as_tested c.sound.ensures c.if-not-sound.false,
+      lt-ltb _ _ c.if-plan-queue.false,
+      sym c.release_past.ensures ∙ c.if-release_past.false,
     )

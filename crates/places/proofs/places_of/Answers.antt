@@ -10,20 +10,18 @@ loop-q-init c = search (rules, sum_none, table_none)
 
 pub overflow_add-sum : goal.overflow_add-sum
 overflow_add-sum c =
-    let l = c in
-    omega (arith, l.requires l.loop-q.q (omega arith))
+    omega (arith, c.requires c.loop-q.q (omega arith))
 
 pub loop-q-preserved : goal.loop-q-preserved
 loop-q-preserved c =
-    let l = c in
-    let a = l.args in
+    let a = c.args in
     let f : ℕ → ℕ = λ q. get_or a.sizes q 0 in (
       search rules,
-      omega (arith, l.loop-q.invariant.1, sum_next f l.loop-q.q),
-      omega (arith, l.requires l.loop-q.q (omega arith)),
+      omega (arith, c.loop-q.invariant.1, sum_next f c.loop-q.q),
+      omega (arith, c.requires c.loop-q.q (omega arith)),
       search rules,
-      rw (c.value_within.ensures, l.loop-q.invariant.1)
-          (table_more (λ q. only (ltb q a.queues) (sum f q)) l.loop-q.out l.loop-q.q (search rules) l.loop-q.invariant.4),
+      rw (c.value_within.ensures, c.loop-q.invariant.1)
+          (table_more (λ q. only (ltb q a.queues) (sum f q)) c.loop-q.out c.loop-q.q (search rules) c.loop-q.invariant.4),
     )
 
 pub returns : goal.returns

@@ -9,14 +9,12 @@ loop-q-init c = search (rules, sum_none)
 
 pub overflow_add-sum : goal.overflow_add-sum
 overflow_add-sum c =
-    let l = c in
-    omega (arith, l.requires.1 l.loop-q.q (omega arith))
+    omega (arith, c.requires.1 c.loop-q.q (omega arith))
 
 pub loop-q-preserved : goal.loop-q-preserved
 loop-q-preserved c =
-    let l = c in
-    let f : ℕ → ℕ = λ q. get_or l.args.sizes q 0 in
-    omega (arith, l.requires.1 l.loop-q.q (omega arith), sum_next f l.loop-q.q)
+    let f : ℕ → ℕ = λ q. get_or c.args.sizes q 0 in
+    omega (arith, c.requires.1 c.loop-q.q (omega arith), sum_next f c.loop-q.q)
 
 pub returns : goal.returns
 returns c =

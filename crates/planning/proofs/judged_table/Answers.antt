@@ -7,36 +7,28 @@ use Rattle.planning.proofs.judged_table.Goals as goal
 
 pub cycle_short-requires : goal.cycle_short-requires
 cycle_short-requires c =
-    let k = c in
-    checked_usable k.requires _ c.if-long-table.true
+    checked_usable c.requires _ c.if-long-table.true
 
 pub returns-then-not-cycle_short : goal.returns-then-not-cycle_short
 unfolding table_judged
 returns-then-not-cycle_short c =
-    let s = c in
-    let f = s in
-    let long = rw f.first_long-long.ensures at s.if-long-table.true in
-    let over = rw (s.cycle_short.ensures, f.first_long-long.ensures) at c.if-not-cycle_short.true in
-    rw (lt-ltb _ _ long, over) (rw (← f.first_long-long.ensures) c.refused.ensures)
+    let long = rw c.first_long-long.ensures at c.if-long-table.true in
+    let over = rw (c.cycle_short.ensures, c.first_long-long.ensures) at c.if-not-cycle_short.true in
+    rw (lt-ltb _ _ long, over) (rw (← c.first_long-long.ensures) c.refused.ensures)
 
 pub returns-then-long-table : goal.returns-then-long-table
 unfolding table_judged
 returns-then-long-table c =
-    let s = c in
-    let f = s in
-    let long = rw f.first_long-long.ensures at s.if-long-table.true in
-    let short = rw (s.cycle_short.ensures, f.first_long-long.ensures) at c.if-not-cycle_short.false in
-    rw (lt-ltb _ _ long, short) (rw (← f.first_long-long.ensures) c.refused-then-long-table.ensures)
+    let long = rw c.first_long-long.ensures at c.if-long-table.true in
+    let short = rw (c.cycle_short.ensures, c.first_long-long.ensures) at c.if-not-cycle_short.false in
+    rw (lt-ltb _ _ long, short) (rw (← c.first_long-long.ensures) c.refused-then-long-table.ensures)
 
 pub sized-requires : goal.sized-requires
 sized-requires c =
-    let f = c in
-    let k = f in
-    (k.requires, omega (arith, f.first_long-long.ensures, c.if-long-table.false, long_within k.args.table))
+    (c.requires, omega (arith, c.first_long-long.ensures, c.if-long-table.false, long_within c.args.table))
 
 pub returns : goal.returns
 unfolding table_judged slots_judged
 returns c =
-    let f = c in
-    let short = rw f.first_long-long.ensures at c.if-long-table.false in
+    let short = rw c.first_long-long.ensures at c.if-long-table.false in
     rw (le-ltb _ _ short) c.sized.ensures

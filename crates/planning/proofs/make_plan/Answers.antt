@@ -14,63 +14,47 @@ all_good t n h = omega (arith, (first_bad_is t n).within)
 pub returns-then-not-counts_good : goal.returns-then-not-counts_good
 unfolding plan_of
 returns-then-not-counts_good c =
-    let k = c in
-    let bad = rw k.counts_good.ensures at c.if-not-counts_good.true in
+    let bad = rw c.counts_good.ensures at c.if-not-counts_good.true in
     rw bad c.refused.ensures
 
 pub first_bad_task-task-requires : goal.first_bad_task-task-requires
 first_bad_task-task-requires c =
-    let k = c in
-    let a = k.args in
-    ((counts_iff a.tasks a.queues).0 (rw k.counts_good.ensures at c.if-not-counts_good.false)).0.1
+    let a = c.args in
+    ((counts_iff a.tasks a.queues).0 (rw c.counts_good.ensures at c.if-not-counts_good.false)).0.1
 
 pub returns-then-task-tasks : goal.returns-then-task-tasks
 unfolding plan_of
 returns-then-task-tasks c =
-    let t = c in
-    let k = t in
-    let good = rw k.counts_good.ensures at t.if-not-counts_good.false in
-    let bad = rw t.first_bad_task-task.ensures at c.if-task-tasks.true in
-    rw (good, lt-ltb _ _ bad) (rw (← t.first_bad_task-task.ensures) c.refused-then-task-tasks.ensures)
+    let good = rw c.counts_good.ensures at c.if-not-counts_good.false in
+    let bad = rw c.first_bad_task-task.ensures at c.if-task-tasks.true in
+    rw (good, lt-ltb _ _ bad) (rw (← c.first_bad_task-task.ensures) c.refused-then-task-tasks.ensures)
 
 pub first_bad_queue-queue-requires : goal.first_bad_queue-queue-requires
 first_bad_queue-queue-requires c =
-    let e = c in
-    let k = e in
-    let a = k.args in
-    ((counts_iff a.tasks a.queues).0 (rw k.counts_good.ensures at e.if-not-counts_good.false)).1.1
+    let a = c.args in
+    ((counts_iff a.tasks a.queues).0 (rw c.counts_good.ensures at c.if-not-counts_good.false)).1.1
 
 pub returns-then-queue-queues : goal.returns-then-queue-queues
 unfolding plan_of
 returns-then-queue-queues c =
-    let u = c in
-    let t = u in
-    let k = t in
-    let good = rw k.counts_good.ensures at t.if-not-counts_good.false in
-    let tasks = rw t.first_bad_task-task.ensures at u.if-task-tasks.false in
-    let bad = rw u.first_bad_queue-queue.ensures at c.if-queue-queues.true in
-    rw (good, le-ltb _ _ tasks, lt-ltb _ _ bad) (rw (← u.first_bad_queue-queue.ensures) c.refused-then-queue-queues.ensures)
+    let good = rw c.counts_good.ensures at c.if-not-counts_good.false in
+    let tasks = rw c.first_bad_task-task.ensures at c.if-task-tasks.false in
+    let bad = rw c.first_bad_queue-queue.ensures at c.if-queue-queues.true in
+    rw (good, le-ltb _ _ tasks, lt-ltb _ _ bad) (rw (← c.first_bad_queue-queue.ensures) c.refused-then-queue-queues.ensures)
 
 pub judged_table-requires : goal.judged_table-requires
 judged_table-requires c =
-    let u = c in
-    let t = u in
-    let k = t in
-    let a = k.args in
+    let a = c.args in
     rw c.tabled.ensures
     (table_checked a.tasks a.queues a.period a.deadline a.priority a.receiver a.square
-    (rw k.counts_good.ensures at t.if-not-counts_good.false)
-    (all_good _ a.tasks (rw t.first_bad_task-task.ensures at u.if-task-tasks.false))
-    (all_good _ a.queues (rw u.first_bad_queue-queue.ensures at c.if-queue-queues.false)))
+    (rw c.counts_good.ensures at c.if-not-counts_good.false)
+    (all_good _ a.tasks (rw c.first_bad_task-task.ensures at c.if-task-tasks.false))
+    (all_good _ a.queues (rw c.first_bad_queue-queue.ensures at c.if-queue-queues.false)))
 
 pub returns : goal.returns
 unfolding plan_of
 returns c =
-    let d = c in
-    let u = d in
-    let t = u in
-    let k = t in
-    let good = rw k.counts_good.ensures at t.if-not-counts_good.false in
-    let tasks = rw t.first_bad_task-task.ensures at u.if-task-tasks.false in
-    let queues = rw u.first_bad_queue-queue.ensures at d.if-queue-queues.false in
-    rw (good, le-ltb _ _ tasks, le-ltb _ _ queues, ← d.tabled.ensures) c.judged_table.ensures
+    let good = rw c.counts_good.ensures at c.if-not-counts_good.false in
+    let tasks = rw c.first_bad_task-task.ensures at c.if-task-tasks.false in
+    let queues = rw c.first_bad_queue-queue.ensures at c.if-queue-queues.false in
+    rw (good, le-ltb _ _ tasks, le-ltb _ _ queues, ← c.tabled.ensures) c.judged_table.ensures

@@ -5,12 +5,10 @@ use Rattle.tables.proofs.tabled.Goals as goal
 pub returns : goal.returns
 unfolding tabled
 returns c =
-    let d = c in
-    let b = d in
     rw (
       c.flat_square.ensures,
-      d.queue_column.ensures,
-      b.byte_column.ensures,
-      b.task_column-2.ensures,
-      b.task_column.ensures,
+      c.queue_column.ensures,
+      c.byte_column.ensures,
+      c.task_column-2.ensures,
+      c.task_column.ensures,
     )

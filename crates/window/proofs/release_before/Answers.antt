@@ -13,6 +13,5 @@ returns-then-job-eq0 c = none _ _ c.if-job-eq0.true
 
 pub release_of-requires : goal.release_of-requires
 release_of-requires c =
-    let k = c in
-    let l : k.args.job.0 - 1 ≤ k.args.job.0 = omega arith in
-    omega (arith, k.requires, mul-le-mul_right k.args.period l)
+    let l : c.args.job.0 - 1 ≤ c.args.job.0 = omega arith in
+    omega (arith, c.requires, mul-le-mul_right c.args.period l)

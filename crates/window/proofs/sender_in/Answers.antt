@@ -23,6 +23,5 @@ sender_at-requires c = rw c.tick_between-at.ensures (c.requires.0, tick_within _
 
 pub returns : goal.returns
 returns c =
-    let k = c in
-    let e = tick_of_ordered k.requires.0 k.args.priority.now last_tick k.args.n.0 in
+    let e = tick_of_ordered c.requires.0 c.args.priority.now last_tick c.args.n.0 in
     c.sender_at.ensures ∙ sender_is _ _ _ _ (c.tick_between-at.ensures ∙ ap tick e)

@@ -12,9 +12,7 @@ same q row P t r e j f g = rw (← still_runs q P t j (sym f ∙ g), ← e)
 
 pub returns-then-runs_at : goal.returns-then-runs_at
 returns-then-runs_at c =
-    let i = c in
-    let k = i in
-    same _ _ _ _ _ i.if-remembered-queue.true (k.requires.3 i.if-remembered-queue.true) c.runs_at.ensures c.if-runs_at.true
+    same _ _ _ _ _ c.if-remembered-queue.true (c.requires.3 c.if-remembered-queue.true) c.runs_at.ensures c.if-runs_at.true
 
 pub returns : goal.returns
 returns c = rw c.window_at.ensures

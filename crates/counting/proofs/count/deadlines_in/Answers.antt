@@ -12,14 +12,9 @@ overflow_add-result-else-second-period c =
 
 pub returns-then-second-period : goal.returns-then-second-period
 returns-then-second-period c =
-    let m = c in
-    let t = m in
-    let s = t in
-    let f = s in
-    let k = f in
-    let few = rw (s.beyond-second.ensures, f.beyond-first.ensures) at t.if-second-period.true in
-    rw (c.at_most_one-then-second-period.ensures, m.at_most_one.ensures, s.beyond-second.ensures, f.beyond-first.ensures)
-    (sym (count_two k.args.period k.args.next k.args.ticks k.requires.1 few))
+    let few = rw (c.beyond-second.ensures, c.beyond-first.ensures) at c.if-second-period.true in
+    rw (c.at_most_one-then-second-period.ensures, c.at_most_one.ensures, c.beyond-second.ensures, c.beyond-first.ensures)
+    (sym (count_two c.args.period c.args.next c.args.ticks c.requires.1 few))
 
 pub returns-else-second-period : goal.returns-else-second-period
 returns-else-second-period c =

@@ -6,8 +6,7 @@ use Rattle.counting.proofs.count.passed_at.Goals as goal
 
 pub returns-then-at-deadline : goal.returns-then-at-deadline
 returns-then-at-deadline c =
-    let t = c in
-    (sym (count_before _ _ _ t.if-at-deadline.true), omega arith, omega arith)
+    (sym (count_before _ _ _ c.if-at-deadline.true), omega arith, omega arith)
 
 pub overflow_add-result : goal.overflow_add-result
 overflow_add-result c =
@@ -16,13 +15,11 @@ overflow_add-result c =
 
 pub overflow_sub-result-2 : goal.overflow_sub-result-2
 overflow_sub-result-2 c =
-    let k = c in
-    let a = k.args in
-    omega (arith, mod-lt (a.at.0 - a.deadline) k.requires.0)
+    let a = c.args in
+    omega (arith, mod-lt (a.at.0 - a.deadline) c.requires.0)
 
 pub returns : goal.returns
 returns c =
-    let k = c in
-    let a = k.args in
-    let m = mod-lt (a.at.0 - a.deadline) k.requires.0 in
+    let a = c.args in
+    let m = mod-lt (a.at.0 - a.deadline) c.requires.0 in
     (sym (count_from _ _ _ (omega arith)), omega (arith, m, div-add-mod' (a.at.0 - a.deadline) a.period), omega (arith, m))

@@ -19,24 +19,21 @@ loop-row-init c = (omega arith, first_bad_none _)
 
 pub sent_by-requires : goal.sent_by-requires
 sent_by-requires c =
-    let k = c in
-    (k.requires.0, omega arith, k.requires.1)
+    (c.requires.0, omega arith, c.requires.1)
 
 pub returns-then-sent_by : goal.returns-then-sent_by
 returns-then-sent_by c =
-    let l = c in
-    let a = l.args in
+    let a = c.args in
     found (sent_by (ordered_at a.sends.now a.period.now a.deadline.now a.priority.now a.tasks a.queue) a.at.0 a.n.0)
-    l.loop-row.row l.loop-row.invariant.1
+    c.loop-row.row c.loop-row.invariant.1
     c.sent_by.result c.sent_by.ensures a.tasks (omega arith) c.if-sent_by.true
 
 pub loop-row-preserved : goal.loop-row-preserved
 loop-row-preserved c =
-    let l = c in
-    let a = l.args in (
+    let a = c.args in (
       omega arith,
       more (sent_by (ordered_at a.sends.now a.period.now a.deadline.now a.priority.now a.tasks a.queue) a.at.0 a.n.0)
-          l.loop-row.row l.loop-row.invariant.1
+          c.loop-row.row c.loop-row.invariant.1
           c.sent_by.result c.sent_by.ensures c.if-sent_by.false,
     )
 

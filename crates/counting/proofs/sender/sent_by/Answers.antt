@@ -14,23 +14,19 @@ after_start P D t pos dpos h = having (has_job P D t pos h) (λ j. omega (arith,
 
 pub due-requires : goal.due-requires
 due-requires c =
-    let k = c in
-    row_positive k.requires.0 k.args.row k.requires.1
+    row_positive c.requires.0 c.args.row c.requires.1
 
 pub number_due-number-requires : goal.number_due-number-requires
 number_due-number-requires c =
-    let s = c in
-    let p = row_positive s.requires.0 s.args.row s.requires.1 in
-    let on = get_or s.args.sends.now (s.args.queue * task_limit + s.args.row) false in
+    let p = row_positive c.requires.0 c.args.row c.requires.1 in
+    let on = get_or c.args.sends.now (c.args.queue * task_limit + c.args.row) false in
     let d = and_right on _ (sym c.due.ensures ∙ c.if-due.true) in
-    (s.requires.0, after_start _ _ s.args.at.0 p.0 p.1 d, s.requires.2, s.requires.1)
+    (c.requires.0, after_start _ _ c.args.at.0 p.0 p.1 d, c.requires.2, c.requires.1)
 
 pub returns-then-due : goal.returns-then-due
 unfolding due_at
 returns-then-due c =
-    let d = c in
-    let t = d in
-    rw (d.number_due-number.ensures, sym t.due.ensures ∙ t.if-due.true)
+    rw (c.number_due-number.ensures, sym c.due.ensures ∙ c.if-due.true)
 
 pub returns-else-due : goal.returns-else-due
 unfolding due_at

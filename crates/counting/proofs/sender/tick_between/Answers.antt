@@ -38,9 +38,8 @@ loop-late-preserved c = omega arith
 
 pub returns : goal.returns
 returns c =
-    let k = c in
     let l = c.loop-late in
-    let a = k.args in
+    let a = c.args in
     let q = columns_at a.sends.now a.period.now a.deadline.now a.tasks a.queue in
     let e : l.early ≡ l.late - 1 = omega arith in
-    rw (tick_of_is q k.requires.0.valid last_tick a.n.0 l.late (omega arith) l.invariant.1 (rw e at l.invariant.2) l.invariant.3)
+    rw (tick_of_is q c.requires.0.valid last_tick a.n.0 l.late (omega arith) l.invariant.1 (rw e at l.invariant.2) l.invariant.3)

@@ -10,24 +10,21 @@ use Rattle.numbering.proofs.number.first_number.Goals as goal
 
 pub returns-then-job-eq0 : goal.returns-then-job-eq0
 returns-then-job-eq0 c =
-    let k = c in
-    let q = queue_at k.args.plan k.args.queue in
-    rw (c.if-job-eq0.true, (window_zero q k.requires.0.valid).0)
+    let q = queue_at c.args.plan c.args.queue in
+    rw (c.if-job-eq0.true, (window_zero q c.requires.0.valid).0)
 
 pub last_number-before-requires : goal.last_number-before-requires
 last_number-before-requires c =
-    let k = c in
-    let R = receiver_period (queue_at k.args.plan k.args.queue) in
-    (k.requires.0, omega (arith, mul-le-mul_right {m = k.args.job.0 - 1} {n = k.args.job.0} R (omega arith)))
+    let R = receiver_period (queue_at c.args.plan c.args.queue) in
+    (c.requires.0, omega (arith, mul-le-mul_right {m = c.args.job.0 - 1} {n = c.args.job.0} R (omega arith)))
 
 pub overflow_add-result : goal.overflow_add-result
 unfolding last
 overflow_add-result c =
-    let k = c in
-    let R = receiver_period (queue_at k.args.plan k.args.queue) in
-    let j = k.args.job.0 in
+    let R = receiver_period (queue_at c.args.plan c.args.queue) in
+    let j = c.args.job.0 in
     let h : (j - 1) * R ≤ last_tick = omega (arith, mul-le-mul_right {m = j - 1} {n = j} R (omega arith)) in
-    rw c.last_number-before.ensures (omega (arith, up_to_fits k.requires.0 ((j - 1) * R) h))
+    rw c.last_number-before.ensures (omega (arith, up_to_fits c.requires.0 ((j - 1) * R) h))
 
 pub returns : goal.returns
 returns c = rw c.last_number-before.ensures

@@ -6,14 +6,12 @@ use Rattle.numbering.proofs.number.number_at.Goals as goal
 
 pub number_due-requires : goal.number_due-requires
 number_due-requires c =
-    let d = c in
-    let p = d.requires in
+    let p = c.requires in
     let positive = p.0.valid.deadline_pos _ p.1.row in
-    rw d.deadline_of-at.ensures (lent _ _ p.0, omega (arith, positive), p.2, p.1.row)
+    rw c.deadline_of-at.ensures (lent _ _ p.0, omega (arith, positive), p.2, p.1.row)
 
 pub returns : goal.returns
 unfolding number
 returns c =
-    let d = c in
-    let a = d.args in
-    rw (c.number_due.ensures, number_due_ordered a.plan a.queue d.deadline_of-at.result.0 a.task, d.deadline_of-at.ensures)
+    let a = c.args in
+    rw (c.number_due.ensures, number_due_ordered a.plan a.queue c.deadline_of-at.result.0 a.task, c.deadline_of-at.ensures)

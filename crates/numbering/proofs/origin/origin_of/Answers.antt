@@ -37,38 +37,31 @@ module _ (p : Plan) (q n : ℕ) (t : Tick) (e : t ≡ tick (tick_of (plan_column
 
 pub tick_between-at-requires : goal.tick_between-at-requires
 tick_between-at-requires c =
-    let k = c in
-    let a = k.args in
-    let u = k.requires.0 in (
+    let a = c.args in
+    let u = c.requires.0 in (
       lent a.plan a.queue u,
       omega arith,
-      rw (up_to_columns a.plan a.queue 0, up_to_zero (queue_at a.plan a.queue) u.valid) (omega (arith, k.requires.1)),
-      rw (up_to_columns a.plan a.queue last_tick) k.requires.2,
+      rw (up_to_columns a.plan a.queue 0, up_to_zero (queue_at a.plan a.queue) u.valid) (omega (arith, c.requires.1)),
+      rw (up_to_columns a.plan a.queue last_tick) c.requires.2,
     )
 
 pub sender_at-task-requires : goal.sender_at-task-requires
 sender_at-task-requires c =
-    let b = c in
-    let k = b in
-    let a = k.args in
+    let a = c.args in
     let q = queue_at a.plan a.queue in (
-      lent a.plan a.queue k.requires.0,
-      rw (tick_is a.plan a.queue a.n.0 _ b.tick_between-at.ensures)
-          (tick_of_found q k.requires.0.valid last_tick a.n.0 k.requires.1 k.requires.2).1,
+      lent a.plan a.queue c.requires.0,
+      rw (tick_is a.plan a.queue a.n.0 _ c.tick_between-at.ensures)
+          (tick_of_found q c.requires.0.valid last_tick a.n.0 c.requires.1 c.requires.2).1,
     )
 
 pub job_due-requires : goal.job_due-requires
 job_due-requires c =
-    let b = c in
-    let k = b in
-    let a = k.args in
-    row_good a.plan a.queue a.n.0 _ b.tick_between-at.ensures _ c.sender_at-task.ensures k.requires.0 k.requires.1 k.requires.2
+    let a = c.args in
+    row_good a.plan a.queue a.n.0 _ c.tick_between-at.ensures _ c.sender_at-task.ensures c.requires.0 c.requires.1 c.requires.2
 
 pub returns : goal.returns
 unfolding job_of
 returns c =
-    let s = c in
-    let b = s in
-    let a = b.args in
-    let t = b.tick_between-at.ensures in
-    rw (c.job_due.ensures, sender a.plan a.queue a.n.0 _ t _ s.sender_at-task.ensures, tick_is a.plan a.queue a.n.0 _ t)
+    let a = c.args in
+    let t = c.tick_between-at.ensures in
+    rw (c.job_due.ensures, sender a.plan a.queue a.n.0 _ t _ c.sender_at-task.ensures, tick_is a.plan a.queue a.n.0 _ t)

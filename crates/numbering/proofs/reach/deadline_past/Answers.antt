@@ -5,8 +5,7 @@ use Rattle.numbering.proofs.reach.deadline_past.Goals as goal
 
 pub past_last-requires : goal.past_last-requires
 past_last-requires c =
-    let k = c in
-    let u = k.requires.0 in
-    let i = k.args.task in
-    let l = k.requires.1 in
+    let u = c.requires.0 in
+    let i = c.args.task in
+    let l = c.requires.1 in
     ((row_positive u i l).0, u.periods_fit i l, omega (arith, u.periods_fit i l, u.valid.deadline_fits i l))

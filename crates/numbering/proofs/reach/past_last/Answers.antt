@@ -6,15 +6,13 @@ use Rattle.numbering.proofs.reach.past_last.Goals as goal
 
 pub returns-then-job-gt-LAST_TICK : goal.returns-then-job-gt-LAST_TICK
 returns-then-job-gt-LAST_TICK c =
-    let k = c in
-    let a = k.args in
+    let a = c.args in
     sym (lt-ltb last_tick (a.job.0 * a.period + a.span)
-    (omega (arith, c.if-job-gt-LAST_TICK.true, mul-le-mul_left a.job.0 k.requires.0, mul-one a.job.0)))
+    (omega (arith, c.if-job-gt-LAST_TICK.true, mul-le-mul_left a.job.0 c.requires.0, mul-one a.job.0)))
 
 pub deadline_of-at-requires : goal.deadline_of-at-requires
 deadline_of-at-requires c =
-    let k = c in
-    omega (arith, k.requires.2, mul-le-mul c.if-job-gt-LAST_TICK.false k.requires.1)
+    omega (arith, c.requires.2, mul-le-mul c.if-job-gt-LAST_TICK.false c.requires.1)
 
 pub returns : goal.returns
 returns c = rw c.deadline_of-at.ensures

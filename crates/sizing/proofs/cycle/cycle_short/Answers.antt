@@ -10,15 +10,13 @@ use Rattle.sizing.proofs.cycle.cycle_short.Goals as goal
 
 pub returns-in-Within : goal.returns-in-Within
 returns-in-Within c =
-    let k = c in
-    let w = capped_within longest_hyperperiod (hyperperiod (queue_at k.args.plan k.args.queue)) _
-    (sym k.hyperperiod_of-cycle.ensures ∙ c.in-Within.is) in
+    let w = capped_within longest_hyperperiod (hyperperiod (queue_at c.args.plan c.args.queue)) _
+    (sym c.hyperperiod_of-cycle.ensures ∙ c.in-Within.is) in
     let h = w.1 in
     search tests
 
 pub returns : goal.returns
 returns c =
-    let k = c in
-    let h : longest_hyperperiod < hyperperiod (queue_at k.args.plan k.args.queue) =
-    capped_over longest_hyperperiod _ (sym k.hyperperiod_of-cycle.ensures ∙ c.in_default.is) in
+    let h : longest_hyperperiod < hyperperiod (queue_at c.args.plan c.args.queue) =
+    capped_over longest_hyperperiod _ (sym c.hyperperiod_of-cycle.ensures ∙ c.in_default.is) in
     search tests

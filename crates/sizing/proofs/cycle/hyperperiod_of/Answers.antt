@@ -30,45 +30,40 @@ loop-i-init c =
 
 pub joined-next-requires : goal.joined-next-requires
 joined-next-requires c =
-    let l = c in
-    let a = l.args in
-    let u = l.requires in
+    let a = c.args in
+    let u = c.requires in
     let q = queue_at a.plan a.queue in (
-      omega (arith, l.loop-i.invariant.1, multiple_pos q u.valid l.loop-i.i (omega arith)),
-      period_pos q u.valid l.loop-i.i (omega arith),
-      l.loop-i.invariant.2,
+      omega (arith, c.loop-i.invariant.1, multiple_pos q u.valid c.loop-i.i (omega arith)),
+      period_pos q u.valid c.loop-i.i (omega arith),
+      c.loop-i.invariant.2,
     )
 
 pub returns-in_default : goal.returns-in_default
 unfolding hyperperiod
 returns-in_default c =
-    let k = c in
-    let l = k in
-    let a = l.args in
-    let u = l.requires in
+    let a = c.args in
+    let u = c.requires in
     let q = queue_at a.plan a.queue in
-    let m = l.loop-i.multiple in
-    let over : longest_hyperperiod < cond (q.sends l.loop-i.i) (lcm m (q.period l.loop-i.i)) m =
-    capped_over longest_hyperperiod _ (sym k.joined-next.ensures ∙ c.in_default.is) in
+    let m = c.loop-i.multiple in
+    let over : longest_hyperperiod < cond (q.sends c.loop-i.i) (lcm m (q.period c.loop-i.i)) m =
+    capped_over longest_hyperperiod _ (sym c.joined-next.ensures ∙ c.in_default.is) in
     let h : longest_hyperperiod < multiple q q.rows =
     omega (
       arith,
-      rw l.loop-i.invariant.1 at over,
-      next q l.loop-i.i,
-      (multiple_mono q u.valid (l.loop-i.i + 1) q.rows (omega arith) (le_refl _)).0,
+      rw c.loop-i.invariant.1 at over,
+      next q c.loop-i.i,
+      (multiple_mono q u.valid (c.loop-i.i + 1) q.rows (omega arith) (le_refl _)).0,
     ) in
     search tests
 
 pub loop-i-preserved : goal.loop-i-preserved
 loop-i-preserved c =
-    let k = c in
-    let l = k in
-    let a = l.args in
+    let a = c.args in
     let q = queue_at a.plan a.queue in
-    let m = l.loop-i.multiple in
-    let w = capped_within longest_hyperperiod (cond (q.sends l.loop-i.i) (lcm m (q.period l.loop-i.i)) m) _
-    (sym k.joined-next.ensures ∙ c.in-Within.is) in
-    (omega arith, w.0 ∙ rw l.loop-i.invariant.1 (sym (next q l.loop-i.i)), omega (arith, w.0, w.1))
+    let m = c.loop-i.multiple in
+    let w = capped_within longest_hyperperiod (cond (q.sends c.loop-i.i) (lcm m (q.period c.loop-i.i)) m) _
+    (sym c.joined-next.ensures ∙ c.in-Within.is) in
+    (omega arith, w.0 ∙ rw c.loop-i.invariant.1 (sym (next q c.loop-i.i)), omega (arith, w.0, w.1))
 
 pub returns : goal.returns
 unfolding hyperperiod

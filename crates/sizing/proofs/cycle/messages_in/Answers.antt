@@ -16,22 +16,19 @@ loop-i-init c = (omega arith, refl, omega arith)
 
 pub row_messages-sum-requires : goal.row_messages-sum-requires
 row_messages-sum-requires c =
-    let l = c in
-    let a = l.args in
-    period_pos (queue_at a.plan a.queue) l.requires.0.valid l.loop-i.i (omega arith)
+    let a = c.args in
+    period_pos (queue_at a.plan a.queue) c.requires.0.valid c.loop-i.i (omega arith)
 
 pub overflow_add-sum : goal.overflow_add-sum
 overflow_add-sum c =
-    let l = c in
-    let a = l.args in
-    omega (arith, c.row_messages-sum.ensures, row_at_most (queue_at a.plan a.queue) a.ticks l.loop-i.i, l.requires.0.tasks_fit)
+    let a = c.args in
+    omega (arith, c.row_messages-sum.ensures, row_at_most (queue_at a.plan a.queue) a.ticks c.loop-i.i, c.requires.0.tasks_fit)
 
 pub loop-i-preserved : goal.loop-i-preserved
 loop-i-preserved c =
-    let l = c in
-    let a = l.args in
+    let a = c.args in
     let q = queue_at a.plan a.queue in
-    omega (arith, c.row_messages-sum.ensures, row_at_most q a.ticks l.loop-i.i, sum_next (row_messages q a.ticks) l.loop-i.i)
+    omega (arith, c.row_messages-sum.ensures, row_at_most q a.ticks c.loop-i.i, sum_next (row_messages q a.ticks) c.loop-i.i)
 
 pub returns : goal.returns
 unfolding messages

@@ -5,6 +5,5 @@ use Rattle.sizing.proofs.needs.between.Goals as goal
 
 pub overflow_sub-result : goal.overflow_sub-result
 overflow_sub-result c =
-    let s = c in
-    let a = s.args in
-    omega (arith, c.count-2.ensures, c.count.ensures, count_mono a.period a.deadline s.requires.0 a.from.0 a.to.0 s.requires.2)
+    let a = c.args in
+    omega (arith, c.count-2.ensures, c.count.ensures, count_mono a.period a.deadline c.requires.0 a.from.0 a.to.0 c.requires.2)

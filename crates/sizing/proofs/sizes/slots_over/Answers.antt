@@ -39,38 +39,32 @@ loop-i-init c = (omega arith, refl)
 
 pub share-row-requires : goal.share-row-requires
 share-row-requires c =
-    let l = c in
-    let k = l in
-    let u = k.requires.0 in
-    let q = queue_at k.args.plan k.args.queue in
+    let u = c.requires.0 in
+    let q = queue_at c.args.plan c.args.queue in
     let row = u.valid.receiver_row in
     let chart = u.periods_fit q.receiver row in
     let taken = c.loop-i-test.true in (
       lent _ _ u,
       period_pos q u.valid q.receiver row,
       chart,
-      rw (l.wanted_for-wanted.ensures q refl) (omega (arith, wanted_fits q u.valid, chart)),
+      rw (c.wanted_for-wanted.ensures q refl) (omega (arith, wanted_fits q u.valid, chart)),
       taken,
-      k.requires.1,
+      c.requires.1,
     )
 
 pub loop-i-preserved : goal.loop-i-preserved
 loop-i-preserved c =
-    let s = c in
-    let l = s in
-    let w = l in
-    let a = w.args in
+    let a = c.args in
     let q = queue_at a.plan a.queue in
-    let e : s.share-row.result ≡ only (q.sends l.loop-i.i) (row_slots q a.ticks l.loop-i.i) =
-    rw (s.share-row.ensures, w.wanted_for-wanted.ensures q refl, row_slots_ordered a.plan a.queue a.ticks l.loop-i.i) in (
+    let e : c.share-row.result ≡ only (q.sends c.loop-i.i) (row_slots q a.ticks c.loop-i.i) =
+    rw (c.share-row.ensures, c.wanted_for-wanted.ensures q refl, row_slots_ordered a.plan a.queue a.ticks c.loop-i.i) in (
       omega arith,
-      rw (most_next (λ i. only (q.sends i) (row_slots q a.ticks i)) l.loop-i.i, ← l.loop-i.invariant.1, ← e)
+      rw (most_next (λ i. only (q.sends i) (row_slots q a.ticks i)) c.loop-i.i, ← c.loop-i.invariant.1, ← e)
           c.larger-greatest.ensures,
     )
 
 pub returns : goal.returns
 unfolding slots_over
 returns c =
-    let l = c in
-    let e : l.loop-i.i ≡ l.args.plan.tasks = omega arith in
-    rw e at l.loop-i.invariant.1
+    let e : c.loop-i.i ≡ c.args.plan.tasks = omega arith in
+    rw e at c.loop-i.invariant.1
