@@ -1,0 +1,9 @@
+-- `trial::play`: the line lies inside the text.
+use Rattle.std.proofs.Common.{length, ◌-◌, ◌≤◌}
+use Rattle.trial.proofs.play.Given as goal
+
+abbrev pub invariant-loop-end : goal.invariant-loop-end
+invariant-loop-end l = (l.at ≤ l.end) × (l.end ≤ length l.text)
+
+abbrev pub decreases-loop-end : goal.decreases-loop-end
+decreases-loop-end l = length l.text - l.end
