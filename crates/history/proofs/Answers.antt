@@ -1,7 +1,7 @@
 -- A receive, by its answer: what each of the four kinds says of the state and the memory before it.
 use Rattle.std.specs.Prelude.{◌+◌, ◌/◌, ◌≤◌, ◌<◌, ◌⊎◌, ◌≡◌}
-use Rattle.common.specs.Words.{ℕ, zero, suc, arith, div-mul-le_self, Bool, true, false, List, inl, inr, refl, sym, subst, ◌∙◌, eqb, length}
-use Rattle.common.specs.Words.{eqb-true, eqb-false, eq-eqb, le-leb}
+use Rattle.common.specs.Words.{ℕ, zero, suc, arith, div-mul-le_self, Bool, true, false, List, inl, inr, refl, sym, ap, subst, ◌∙◌, eqb}
+use Rattle.common.specs.Words.{length, eqb-true, eqb-false, eq-eqb, le-leb}
 use Rattle.common.specs.Tests.{lt_or_le}
 use Rattle.calendar.specs.Calendar.{message, slot}
 use Rattle.model.specs.Model.{Valid, Sender, receiver_period, deadline_of, number, first, last, sender_of}
@@ -11,7 +11,7 @@ use Rattle.plan.specs.Limits.{last_tick, payload_bytes, slot_bytes}
 use Rattle.plan.specs.Plan.{queue_at}
 use Rattle.plan.specs.Sound.{Sound}
 use Rattle.plan.specs.Refusals.{Line}
-use Rattle.history.specs.Types.{Plan, Refusal, Received}
+use Rattle.history.specs.Types.{Number, Plan, Refusal, Received}
 use Rattle.slots.specs.Slots.{slot_at}
 use Rattle.mailbox.specs.Calls.{receive_lines, found, slot_for, receiving_job}
 use Rattle.running.specs.View.{view_of}
@@ -63,8 +63,25 @@ pub record Told (p : Plan) (w : World) (q t n : ℕ) : Type 0 where
   pub not_past : n ≤ last_at p w q t
 
 pub told : {p : Plan} {w : World} {q t n : ℕ} {a : Received} → Answered p w q t a → Tells a n → Told p w q t n
-told (finding h l e) of_message = record { can = h; is_next = refl; not_past = l }
-told (missing h l e) of_gap = record { can = h; is_next = refl; not_past = l }
+told {p} {w} {q} {t} {n} {a} answer tells = go answer refl tells
+  where
+    -- the number that is told is the next one
+    as_next : {k : ℕ} → message (next p w q t) ≡ message k → k ≡ next p w q t
+    as_next e = sym (ap (λ (x : Number). x.0) e)
+
+    go : {x y : Received} {k : ℕ} → Answered p w q t x → x ≡ y → Tells y k → Told p w q t k
+    go (finding h l e) s (of_message {n = k}) =
+        let same : k ≡ next p w q t = as_next {k = k} (cc) in
+        record { can = h; is_next = same; not_past = omega arith }
+    go (missing h l e) s (of_gap {n = k}) =
+        let same : k ≡ next p w q t = as_next {k = k} (cc) in
+        record { can = h; is_next = same; not_past = omega arith }
+    go (finding h l e) s of_gap = cc
+    go (missing h l e) s of_message = cc
+    go (ended h l) s of_message = cc
+    go (ended h l) s of_gap = cc
+    go refused s of_message = cc
+    go refused s of_gap = cc
 
 module _ {p : Plan} (sound : Sound p) {w : World} {q t n : ℕ} (k : Told p w q t n) where
   valid_queue : Valid (queue_at p q)
@@ -121,13 +138,16 @@ pub record Ahead (p : Plan) (w : World) (q n : ℕ) : Type 0 where
   pub ahead : w.state.tick.0 < deadline_of (queue_at p q) row job
 
 pub in_time : {p : Plan} {w w' : World} {c : Call} {q n : ℕ} {b : List ℕ} → Sends p w c q n b → Step p w c w' → Ahead p w q n
-in_time {p} {w} {q = q} {n = n} {b = b} (accepted_as {i = i} {t = t} e) (sends h) =
-    record {
-      row = i;
-      job = t / (queue_at p q).period i;
-      queue = h.queue;
-      sender = h.sender;
-      numbered = sym (sent_is {w = w} h (accepted_as e)).1;
-      ahead = omega (arith, h.in_order, h.running);
-    }
-in_time {q = q} {n = n} {b = b} (accepted_as e) (stays quiet) = absurd (quiet.no_send q n b (accepted_as e))
+in_time {p} {w} {q = q} {n = n} {b = b} x y = go x y
+  where
+    go : {c : Call} {w' : World} → Sends p w c q n b → Step p w c w' → Ahead p w q n
+    go (accepted_as {i = i} {t = t} e) (sends h) =
+        record {
+          row = i;
+          job = t / (queue_at p q).period i;
+          queue = h.queue;
+          sender = h.sender;
+          numbered = sym (sent_is {w = w} h (accepted_as e)).1;
+          ahead = omega (arith, h.in_order, h.running);
+        }
+    go (accepted_as e) (stays quiet) = absurd (quiet.no_send q n b (accepted_as e))

@@ -24,7 +24,7 @@ use Rattle.history.proofs.Invariant.{Shape, Inv, held, bytes, unsent, sent_is, t
 use Rattle.history.proofs.Holds.{holds, shaped}
 use Rattle.history.proofs.Order.{Order, order, every_pos, up_append, length_up}
 use Rattle.history.proofs.Answers.{Answered, finding, missing, ended, answered, answered_so, Told, told, told_window, told_deadline, told_outdated}
-use Rattle.history.proofs.Answers.{shown, in_time}
+use Rattle.history.proofs.Answers.{refused, shown, in_time}
 
 -- ## A send is its job's
 
@@ -79,23 +79,30 @@ module _ {p : Plan} {m : List ℕ} (fitting : Fitting p) (begins : Begins p m) w
   -- a message that was sent before: its slot would hold it, or one that cannot have been sent yet
   missed : {S : ℕ → List ℕ → Type 0} {w : World} {q t n row : ℕ} → Inv p q S w → Answered p w q t (Received.Gap (message n) row) →
       (b : List ℕ) → S n b → ⊥
-  missed {S} {w} {q} {t} inv (missing h l e) b s =
-      let n : ℕ = next p w q t in
-      let above : n < held p q w n = lt_of_le-ne (inv.not_older n b s) (λ x. e (sym x)) in
-      having (inv.fair n (omega arith))
-      (λ there.
-      having (inv.origin n b s)
-      (λ o.
-      having (inv.origin (held p q w n) (bytes p q w n) there.0)
-      (λ o'.
-      omega (
-        arith,
-        slot_waits fitting.sound q h.queue (fitting.fit q h.queue) o.row o.job o'.row o'.job o.sender o'.sender
-            (rw (o.numbered, o'.numbered) above) (rw (o.numbered, o'.numbered) (sym there.1)),
-        o'.released,
-        h.in_order,
-        told_outdated fitting.sound (told {w = w} (missing h l e) of_gap) o.row o.job o.sender o.numbered,
-      ))))
+  missed {S} {w} {q} {t} {n} {row} inv answer b s = go answer refl
+    where
+      go : {a : Received} → Answered p w q t a → a ≡ Received.Gap (message n) row → ⊥
+      go (finding h l e) x = cc
+      go (ended h l) x = cc
+      go refused x = cc
+      go (missing h l e) x =
+          let told_n : Told p w q t n = told {w = w} {n = n} (missing h l e) (rw x of_gap) in
+          let as_held : held p q w n ≡ n → ⊥ = λ y. e (rw (sym told_n.is_next) y) in
+          let above : n < held p q w n = lt_of_le-ne (inv.not_older n b s) (λ y. as_held (sym y)) in
+          having (inv.fair n (omega arith))
+          (λ there.
+          having (inv.origin n b s)
+          (λ o.
+          having (inv.origin (held p q w n) (bytes p q w n) there.0)
+          (λ o'.
+          omega (
+            arith,
+            slot_waits fitting.sound q h.queue (fitting.fit q h.queue) o.row o.job o'.row o'.job o.sender o'.sender
+                (rw (o.numbered, o'.numbered) above) (rw (o.numbered, o'.numbered) (sym there.1)),
+            o'.released,
+            h.in_order,
+            told_outdated fitting.sound told_n o.row o.job o.sender o.numbered,
+          ))))
 
   pub gap_never_sent : (H K : History) (q t n row : ℕ) → receive_says p (world p m H) q t ≡ Received.Gap (message n) row →
       (H then receive q t) ⊑ K →

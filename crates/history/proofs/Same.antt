@@ -22,8 +22,11 @@ use Rattle.history.proofs.Reading.{message_as_sent, sent_same, gap_never_sent, e
 -- ## Histories that go on
 
 pub earlier : {H K : History} {c : Call} → (H then c) ⊑ K → H ⊑ K
-earlier same = more same
-earlier (more r) = more (earlier r)
+earlier {H} {K} {c} x = go x
+  where
+    go : {L : History} → (H then c) ⊑ L → H ⊑ L
+    go same = more same
+    go (more r) = more (go r)
 
 pub sent_still : (p : Plan) (m : List ℕ) (q n : ℕ) (b : List ℕ) {H K : History} → H ⊑ K → SentIn p m H q n b → SentIn p m K q n b
 sent_still p m q n b same s = s

@@ -12,8 +12,8 @@ use Rattle.plan.specs.Limits.{last_tick, payload_bytes}
 use Rattle.plan.specs.Plan.{queue_at}
 use Rattle.slots.specs.Slots.{number_in, stored}
 use Rattle.running.specs.Calls as running
-use Rattle.mailbox.specs.Calls.{unsent_at, send_lines, receive_lines, send_answer, send_state, send_memory, look, found, receive_state, stepped_on}
-use Rattle.mailbox.specs.Calls.{running_number, receiving_job, next_number, slot_in, slot_for}
+use Rattle.mailbox.specs.Calls.{unsent_at, send_lines, receive_lines, found, receive_state, stepped_on, running_number, receiving_job, next_number}
+use Rattle.mailbox.specs.Calls.{slot_in, slot_for}
 use Rattle.mailbox.specs.Outcomes.{sent_state, read_past, moved_to, state_clear}
 use Rattle.mailbox.specs.Refused.{send_keeps}
 use Rattle.plan.specs.Verdicts.{Passed, Stopped, passed_good, passed_clear, stopped_refused, passed_or_stopped}
