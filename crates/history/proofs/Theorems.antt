@@ -93,7 +93,8 @@ module _ {p : Plan} (made : Made p) {m : List ℕ} (begins : Begins p m) where
       receive_says p (world p m (history before)) q t ≡ Received.Gap (message n) row →
       (b : List ℕ) → ¬ SentIn p m (history (before ++ receive q t ∷ later)) q n b
   gap_never_sent_in_list before later q t n row e b s =
-      gap_never_sent (history before) (go_on (history before) (receive q t ∷ later)) q t n row e (goes_on (history before then receive q t) later) b
+      Reading.gap_never_sent (made_fits made) begins (history before) (go_on (history before) (receive q t ∷ later)) q t n row e
+      (goes_on (history before then receive q t) later) b
       (subst (λ (H : History). SentIn p m H q n b) (go_on_append start before (receive q t ∷ later)) s)
 
   -- ## "in number order"
