@@ -1,8 +1,7 @@
 -- Turns as the code takes them: what each test that it makes says of the turn. Here are the rows of 01 and 02, and a frame; 03 is in
 -- Starts.antt, 04 and 05 in CallLines.antt.
 use Rattle.std.specs.Prelude.{◌<◌, ◌&&◌, ◌≡◌}
-use Rattle.common.specs.Words.{ℕ, Bool, true, false, true≢false, cond, not, List, refl, sym, ap, ◌∙◌, leb, leb-false, length, not-true}
-use Rattle.common.specs.Words.{lt-ltb}
+use Rattle.common.specs.Words.{ℕ, Bool, true, false, true≢false, cond, not, List, refl, sym, ap, ◌∙◌, leb, leb-false, not-true}
 use Rattle.frames.specs.Frames.{frame_of, payload_in}
 use Rattle.frames.specs.Writing.{Written}
 use Rattle.desk.specs.Types.{Frame, Desk, Stepped}
