@@ -139,7 +139,8 @@ pub returns-then-window-next : goal.returns-then-window-next
 returns-then-window-next c =
     let a = c.args in
     let p = lent_plan a.sends.now a.period.now a.deadline.now a.priority.now a.receiver.now a.size.now a.place.now a.tasks a.queues in (
-      looks p a.memory.now a.queue a.at.0 a.before.0 c.judge_receive-verdict.ensures c.in_default.is (get_or a.reading.now a.queue 0) (ap (λ (r : Remembered). r.window) c.window_for-seen.ensures) c.next_number-next.ensures
+      looks p a.memory.now a.queue a.at.0 a.before.0 c.judge_receive-verdict.ensures c.in_default.is (get_or a.reading.now a.queue 0)
+          (ap (λ (r : Remembered). r.window) c.window_for-seen.ensures) c.next_number-next.ensures
           (rw (lt-ltb _ _ c.if-window-next.true)),
       remembers_window p a.queue a.at.0 c.window_for-seen.ensures,
     )
@@ -186,7 +187,8 @@ pub returns-then-held-next : goal.returns-then-held-next
 returns-then-held-next c =
     let a = c.args in
     let p = lent_plan a.sends.now a.period.now a.deadline.now a.priority.now a.receiver.now a.size.now a.place.now a.tasks a.queues in (
-      looks p a.memory.now a.queue a.at.0 a.before.0 c.judge_receive-verdict.ensures c.in_default.is (get_or a.reading.now a.queue 0) (ap (λ (r : Remembered). r.window) c.window_for-seen.ensures) c.next_number-next.ensures
+      looks p a.memory.now a.queue a.at.0 a.before.0 c.judge_receive-verdict.ensures c.in_default.is (get_or a.reading.now a.queue 0)
+          (ap (λ (r : Remembered). r.window) c.window_for-seen.ensures) c.next_number-next.ensures
           (rw (le-ltb _ _ c.if-window-next.false)
           (is_message p a.memory.now a.queue _ c.slot_for-slot.ensures c.number_in-held.ensures c.if-held-next.true)),
       remembers_window p a.queue a.at.0 c.window_for-seen.ensures,
@@ -207,7 +209,8 @@ pub returns : goal.returns
 returns c =
     let a = c.args in
     let p = lent_plan a.sends.now a.period.now a.deadline.now a.priority.now a.receiver.now a.size.now a.place.now a.tasks a.queues in (
-      looks p a.memory.now a.queue a.at.0 a.before.0 c.judge_receive-verdict.ensures c.in_default.is (get_or a.reading.now a.queue 0) (ap (λ (r : Remembered). r.window) c.window_for-seen.ensures) c.next_number-next.ensures
+      looks p a.memory.now a.queue a.at.0 a.before.0 c.judge_receive-verdict.ensures c.in_default.is (get_or a.reading.now a.queue 0)
+          (ap (λ (r : Remembered). r.window) c.window_for-seen.ensures) c.next_number-next.ensures
           (rw (le-ltb _ _ c.if-window-next.false)
           (is_gap p a.memory.now a.queue _ c.slot_for-slot.ensures c.number_in-held.ensures c.if-held-next.false c.sender_in-sender.ensures)),
       remembers_window p a.queue a.at.0 c.window_for-seen.ensures,

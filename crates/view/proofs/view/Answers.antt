@@ -1,8 +1,6 @@
 -- `view`: one law for each way out, over the answer and the two references.
 use Rattle.std.specs.Prelude.{◌≡◌, ◌&&◌, ◌+◌, ◌*◌, ◌-◌, ◌<◌, ◌≤◌}
-use Rattle.common.specs.Words.{refl, ap, ◌∙◌, Bool, true, false, cond, List, [], ℕ, arith}
-use Rattle.common.specs.Words.{length, take}
-use Rattle.common.specs.Words.{drop, ne_eqb, eq-eqb, lt-leb, le-leb}
+use Rattle.common.specs.Words.{refl, ap, ◌∙◌, Bool, true, false, cond, List, [], ℕ, arith, length, take, drop, ne_eqb, eq-eqb, lt-leb, le-leb}
 use denote.Ref.{Bor}
 use Rattle.common.specs.Tests.{tests}
 use Rattle.calendar.specs.declared.Number.{Number}
