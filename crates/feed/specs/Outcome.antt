@@ -1,7 +1,6 @@
 -- What a call of `feed` leaves: the result, and the three buffers, from the one definition of feeding.
 use Rattle.std.specs.Prelude.{◌+◌, ◌≤◌, ◌≡◌}
 use Rattle.common.specs.Words.{ℕ, List, length, take, drop, sets}
-use Rattle.desk.specs.declared.Desk.{Desk}
 use Rattle.lines.specs.Lines.{carry_limit}
 pub use Rattle.feed.specs.Answers.{console_of}
 use Rattle.feed.specs.Answers.{Console}
