@@ -215,7 +215,8 @@ run_lines {p} {m} {H} {w} {log} r (l ∷ ls) =
     subst (λ (x : Log). Runs p m (go_on H (calls ++ calls_in ls)) (feed.console_after (feed.next w l) ls) x)
     (append_assoc log (e ∷ []) (log_of (feed.next w l) ls))
     (subst (λ (K : History). Runs p m K (feed.console_after (feed.next w l) ls) ((log ++ (e ∷ [])) ++ log_of (feed.next w l) ls))
-    (sym (go_on_append H calls (calls_in ls))) (run_lines (run_line r l) ls))
+    (sym (go_on_append H calls (calls_in ls)))
+    (run_lines {p = p} {m = m} {H = go_on H calls} {w = feed.next w l} {log = log ++ (e ∷ [])} (run_line r l) ls))
 
 -- ## Before the accepted 03
 
