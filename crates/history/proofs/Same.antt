@@ -171,11 +171,11 @@ module _ {p : Plan} {m : List ℕ} (fitting : Fitting p) (begins : Begins p m) (
   read_to_end H k end =
       let Q : Queue = queue_at p q in
       let o = order p q (valid_at fitting.sound q counted) begins filler (omega (arith, fitting.sound.checked.queues_fit)) H in
-      let then-all : numbers (read_by p m filler end.before q k) ≡ window_numbers Q k =
+      let then_all : numbers (read_by p m filler end.before q k) ≡ window_numbers Q k =
       subst (λ (j : ℕ). numbers (read_by p m filler end.before q j) ≡ window_numbers Q j) end.job
       (empty_when_all_read fitting.sound begins filler end.before q end.t end.answer) in
       let all : length (numbers (read_by p m filler H q k)) ≡ suc (last Q k) - first Q k =
-      omega (arith, o.no_further k, longer k (earlier end.within), ap length then-all, length_up (first Q k) (suc (last Q k) - first Q k)) in
+      omega (arith, o.no_further k, longer k (earlier end.within), ap length then_all, length_up (first Q k) (suc (last Q k) - first Q k)) in
       o.in_a_row k ∙ ap (up_from (first Q k)) all
 
 end_queue : {p : Plan} {m : List ℕ} {H : History} {q k : ℕ} → ReadToEnd p m H q k → q < p.queues

@@ -1,2 +1,2 @@
-// Theorems alone: what every history of calls keeps (specs/Theorems.antt). There is no code here.
+// Theorems alone: what every history of calls keeps (proofs/Theorems.antt). There is no code here.
 #![tactic(auto)]

@@ -22,7 +22,7 @@ code_back : (code : ℕ) (rest : List ℕ) → code < 256 → code_in (line_of (
 code_back code rest h = field [] rest 0 1 code refl (omega arith)
 
 -- a code and two numbers
-module _ (code width n width' n' : ℕ) (Code-fits : code < 256) (fits : n < 256 ^ width) (fits' : n' < 256 ^ width') where
+module _ (code width n width' n' : ℕ) (code_fits : code < 256) (fits : n < 256 ^ width) (fits' : n' < 256 ^ width') where
   abbrev line : List ℕ
   line = line_of (in_bytes 1 code ++ (in_bytes width n ++ in_bytes width' n'))
 

@@ -1,2 +1,2 @@
-// Theorems alone: what a saved log of the console tells (specs/Theorems.antt). There is no code here.
+// Theorems alone: what a saved log of the console tells (proofs/Theorems.antt). There is no code here.
 #![tactic(auto)]

@@ -1,2 +1,2 @@
-// The crate is its specs/: the periodic-delayed model and its laws.
+// The periodic-delayed model, in specs/, and its laws, in proofs/. There is no code here.
 #![tactic(auto)]

@@ -1,7 +1,7 @@
 -- Laws of phrases: how far each rule goes, and rules in a row and choices as the code makes them.
 use Rattle.std.specs.Prelude.{◌≡◌}
 use Rattle.common.specs.Words.{ℕ, arith, true, false, true≢false, List, refl, sym, ◌∙◌, eq-eqb, ne_eqb}
-use Rattle.words.specs.Kinds.{ENDED, COLON, SCOPE, DOT, COMMA, SEMICOLON, OPEN-BRACE, ANNEXED, ARROW, DELAYING, ANNEX, DATA, EVENT, IN, NONE, OUT}
+use Rattle.words.specs.Kinds.{ENDED, COLON, SCOPE, DOT, COMMA, SEMICOLON, OPEN_BRACE, ANNEXED, ARROW, DELAYING, ANNEX, DATA, EVENT, IN, NONE, OUT}
 use Rattle.words.specs.Kinds.{PORT}
 use Rattle.tokens.specs.Tokens.{Token}
 use Rattle.steps.specs.Steps.{Step, On, Stop, ◌⟫◌, next, second, is, named, any, the, name, optional, many}
@@ -27,7 +27,7 @@ rest_advances ts h = moved_any ts (rest_not_ended (next ts) h)
 pub rest_moves : Moves 1 rest
 unfolding rest
 rest_moves ts =
-    moved_then (moved_then (moves_many _ any rest_advances ts) (moves_optional (is OPEN-BRACE) block_moves)) (moves_the SEMICOLON (λ e. omega arith))
+    moved_then (moved_then (moves_many _ any rest_advances ts) (moves_optional (is OPEN_BRACE) block_moves)) (moves_the SEMICOLON (λ e. omega arith))
 
 pub scope_advances : Advances begins_scope scope
 scope_advances = advances begins_scope (λ ts. moved_then (moves_name ts) (moves_the SCOPE (λ e. omega arith)))
@@ -107,7 +107,7 @@ skipped_moves ts n = moved_then (moved_any ts n) (moves_many _ any skip_advances
 
 -- ## Rules in a row
 
-pub rest_then : (s : Step) → (s ⟫ many (λ ts. rest_kind (next ts)) any) ⟫ optional (is OPEN-BRACE) block ⟫ the SEMICOLON ≡ s ⟫ rest
+pub rest_then : (s : Step) → (s ⟫ many (λ ts. rest_kind (next ts)) any) ⟫ optional (is OPEN_BRACE) block ⟫ the SEMICOLON ≡ s ⟫ rest
 unfolding rest
 rest_then (On ts) = refl
 rest_then (Stop f) = refl

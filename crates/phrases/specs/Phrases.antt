@@ -1,6 +1,6 @@
 -- AADL.md, section 2: rules that declare nothing by themselves.
 use Rattle.common.specs.Words.{ℕ, Bool, true, false, cond, List, eqb}
-use Rattle.words.specs.Kinds.{ENDED, END, COLON, SCOPE, DOT, COMMA, SEMICOLON, OPEN-BRACE, ANNEXED, ARROW, DELAYING, ANNEX, CALLS, CONNECTIONS, DATA}
+use Rattle.words.specs.Kinds.{ENDED, END, COLON, SCOPE, DOT, COMMA, SEMICOLON, OPEN_BRACE, ANNEXED, ARROW, DELAYING, ANNEX, CALLS, CONNECTIONS, DATA}
 use Rattle.words.specs.Kinds.{EVENT, FEATURES, FLOWS, IN, MODES, NONE, OUT, PORT, PROPERTIES, PROTOTYPES, SUBCOMPONENTS}
 use Rattle.tokens.specs.Tokens.{Token}
 use Rattle.steps.specs.Steps.{Step, ◌⟫◌, next, second, is, named, any, the, name, optional, many}
@@ -8,10 +8,10 @@ use Rattle.values.specs.Values.{block}
 
 -- rest = { any token but "{" ";" "end" and the text's end } [ block ] ";"
 unfoldable pub rest_kind : ℕ → Bool
-rest_kind k = cond (eqb k OPEN-BRACE) false (cond (eqb k SEMICOLON) false (cond (eqb k END) false (cond (eqb k ENDED) false true)))
+rest_kind k = cond (eqb k OPEN_BRACE) false (cond (eqb k SEMICOLON) false (cond (eqb k END) false (cond (eqb k ENDED) false true)))
 
 unfoldable pub rest : List Token → Step
-rest ts = many (λ us. rest_kind (next us)) any ts ⟫ optional (is OPEN-BRACE) block ⟫ the SEMICOLON
+rest ts = many (λ us. rest_kind (next us)) any ts ⟫ optional (is OPEN_BRACE) block ⟫ the SEMICOLON
 
 -- { NAME "::" }
 abbrev pub begins_scope : List Token → Bool

@@ -3,7 +3,7 @@
 
 ghost use Rattle.std.specs.Prelude.{◌≡◌};
 ghost use Rattle.steps.specs.Steps.{◌⟫◌, the, is, optional};
-ghost use Rattle.words.specs.Kinds.{OPEN-BRACE};
+ghost use Rattle.words.specs.Kinds.{OPEN_BRACE};
 ghost use Rattle.steps.specs.Lifted.{lift};
 ghost use Rattle.values.specs.Values.{block};
 ghost use Rattle.phrases.specs.Phrases.{rest_kind, rest, scopes, dotted, classifier, join_kind, path, paths, annex, direction, port_kind, link_kind};
@@ -47,7 +47,7 @@ fn in_rest(kind: usize) -> bool
 
 // [ block ]
 fn maybe_block(text: &[u8], went: Went) -> Went
-    ensures { lift text.now result ≡ lift text.now went ⟫ optional (is OPEN-BRACE) block }
+    ensures { lift text.now result ≡ lift text.now went ⟫ optional (is OPEN_BRACE) block }
 {
     if next(text, went) == OPEN_BRACE {
         return block(text, went);

@@ -1,2 +1,2 @@
-// Theorems alone: what is promised of priorities (specs/Order.antt, specs/Theorems.antt). There is no code here.
+// Theorems alone: what is promised of priorities (proofs/Order.antt, proofs/Theorems.antt). There is no code here.
 #![tactic(auto)]

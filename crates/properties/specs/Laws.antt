@@ -2,7 +2,7 @@
 use Rattle.std.specs.Prelude.{◌<◌, ◌≤◌, ◌∷◌, ◌≡◌}
 use Rattle.common.specs.Words.{ℕ, arith, Bool, true, false, true≢false, cond, List, [], refl, sym, ap, ◌∙◌, eqb, ltb, get_or, set, eq-eqb}
 use Rattle.common.specs.Words.{ne_eqb, lt-ltb, le-ltb, ltb-true, eqb-true}
-use Rattle.words.specs.Kinds.{SCOPE, BECOMES, SEMICOLON, NONE, OPEN-BRACE, CLOSE-BRACE, PROPERTIES}
+use Rattle.words.specs.Kinds.{SCOPE, BECOMES, SEMICOLON, NONE, OPEN_BRACE, CLOSE_BRACE, PROPERTIES}
 use Rattle.tokens.specs.Tokens.{Token}
 use Rattle.tokens.specs.Laws.{cases}
 use Rattle.steps.specs.declared.Fault.{Fault}
@@ -226,13 +226,13 @@ associations_in_moves c = moves_repeat named (association_in c) (advances_on nam
 block_in_moves : (c : ℕ) → MovesOn 2 (block_in c)
 unfolding block_in
 block_in_moves c ps ts =
-    moved_onward _ (quiet (the CLOSE-BRACE)) (moved_onward _ (associations_in c)
-    (moves_the OPEN-BRACE (λ e. omega arith) ts) (associations_in_moves c))
-    (moves_quiet (the CLOSE-BRACE) (moves_the CLOSE-BRACE (λ e. omega arith)))
+    moved_onward _ (quiet (the CLOSE_BRACE)) (moved_onward _ (associations_in c)
+    (moves_the OPEN_BRACE (λ e. omega arith) ts) (associations_in_moves c))
+    (moves_quiet (the CLOSE_BRACE) (moves_the CLOSE_BRACE (λ e. omega arith)))
 
 pub maybe_block_moves : (c : ℕ) → MovesOn 0 (maybe_block_in c)
 unfolding maybe_block_in
-maybe_block_moves c = moves_optionally (is OPEN-BRACE) (block_in c) (block_in_moves c)
+maybe_block_moves c = moves_optionally (is OPEN_BRACE) (block_in c) (block_in_moves c)
 
 pub none_or_moves : (rule : Rule) → MovesOn 0 rule → MovesOn 0 (none_or rule)
 unfolding none_or
@@ -248,11 +248,11 @@ properties_in_moves c ps ts =
 -- ## Blocks and sections as the code reads them
 
 pub block_does : (c : ℕ) (s : State) →
-    does (does (does s (quiet (the OPEN-BRACE))) (associations_in c)) (quiet (the CLOSE-BRACE)) ≡ does s (block_in c)
+    does (does (does s (quiet (the OPEN_BRACE))) (associations_in c)) (quiet (the CLOSE_BRACE)) ≡ does s (block_in c)
 unfolding block_in
 block_does c s =
-    ap (λ (t : State). does t (quiet (the CLOSE-BRACE))) (does_then s (quiet (the OPEN-BRACE)) (associations_in c))
-    ∙ does_then s (λ ps ts. quiet (the OPEN-BRACE) ps ts ⨟ associations_in c) (quiet (the CLOSE-BRACE))
+    ap (λ (t : State). does t (quiet (the CLOSE_BRACE))) (does_then s (quiet (the OPEN_BRACE)) (associations_in c))
+    ∙ does_then s (λ ps ts. quiet (the OPEN_BRACE) ps ts ⨟ associations_in c) (quiet (the CLOSE_BRACE))
 
 module _ (rule : Rule) (s : State) where
   pub none_on : first_kind s.went ≡ NONE → does s (quiet nothing) ≡ does s (none_or rule)

@@ -1,7 +1,7 @@
 -- Properties declare nothing, so nothing has to be paid for them; a section's list pays for itself.
 use Rattle.std.specs.Prelude.{◌≡◌}
 use Rattle.common.specs.Words.{ℕ, arith, List, [], refl, eqb, get_or}
-use Rattle.words.specs.Kinds.{NONE, OPEN-BRACE, CLOSE-BRACE, PROPERTIES}
+use Rattle.words.specs.Kinds.{NONE, OPEN_BRACE, CLOSE_BRACE, PROPERTIES}
 use Rattle.tokens.specs.Tokens.{Token}
 use Rattle.tokens.specs.Laws.{cases}
 use Rattle.steps.specs.Steps.{On, is, named, the}
@@ -30,13 +30,13 @@ associations_pay c = pays_repeat named (association_in c) (association_pays c)
 block_pays : (c : ℕ) → Pays 0 2 (block_in c)
 unfolding block_in
 block_pays c ps ts =
-    paid_onward _ (quiet (the CLOSE-BRACE)) (paid_onward _ (associations_in c)
-    (paid_moved (moves_the OPEN-BRACE (λ e. omega arith) ts)) (associations_pay c))
-    (pays_quiet (the CLOSE-BRACE) (moves_the CLOSE-BRACE (λ e. omega arith)))
+    paid_onward _ (quiet (the CLOSE_BRACE)) (paid_onward _ (associations_in c)
+    (paid_moved (moves_the OPEN_BRACE (λ e. omega arith) ts)) (associations_pay c))
+    (pays_quiet (the CLOSE_BRACE) (moves_the CLOSE_BRACE (λ e. omega arith)))
 
 pub maybe_block_pays : (c : ℕ) → Pays 0 0 (maybe_block_in c)
 unfolding maybe_block_in
-maybe_block_pays c = pays_optionally (is OPEN-BRACE) (block_in c) (block_pays c)
+maybe_block_pays c = pays_optionally (is OPEN_BRACE) (block_in c) (block_pays c)
 
 pub none_or_pays : (rule : Rule) → Pays 0 0 rule → Pays 0 0 (none_or rule)
 unfolding none_or

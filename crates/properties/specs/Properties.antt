@@ -1,8 +1,8 @@
 -- AADL.md, section 4: the properties that are read.
 use Rattle.std.specs.Prelude.{◌∷◌}
 use Rattle.common.specs.Words.{ℕ, Bool, false, cond, List, [], eqb, ltb, get_or, set}
-use Rattle.words.specs.Kinds.{PERIOD, DEADLINE, DISPATCH-PROTOCOL, DISPATCH-OFFSET, PRIORITY, TIMING, TIMING-PROPERTIES, THREAD-PROPERTIES}
-use Rattle.words.specs.Kinds.{COMMUNICATION-PROPERTIES, PERIODIC, DELAYED, SCOPE, BECOMES, SEMICOLON, NONE, OPEN-BRACE, CLOSE-BRACE, PROPERTIES}
+use Rattle.words.specs.Kinds.{PERIOD, DEADLINE, DISPATCH_PROTOCOL, DISPATCH_OFFSET, PRIORITY, TIMING, TIMING_PROPERTIES, THREAD_PROPERTIES}
+use Rattle.words.specs.Kinds.{COMMUNICATION_PROPERTIES, PERIODIC, DELAYED, SCOPE, BECOMES, SEMICOLON, NONE, OPEN_BRACE, CLOSE_BRACE, PROPERTIES}
 use Rattle.tokens.specs.Tokens.{Token}
 use Rattle.steps.specs.declared.Fault.{Fault}
 use Rattle.steps.specs.Faults.{fault}
@@ -42,16 +42,16 @@ unfoldable pub named_by : ℕ → ℕ
 named_by kind =
     cond (eqb kind PERIOD) period
     (cond (eqb kind DEADLINE) deadline
-    (cond (eqb kind DISPATCH-PROTOCOL) protocol
-    (cond (eqb kind DISPATCH-OFFSET) offset
+    (cond (eqb kind DISPATCH_PROTOCOL) protocol
+    (cond (eqb kind DISPATCH_OFFSET) offset
     (cond (eqb kind PRIORITY) priority
     (cond (eqb kind TIMING) timing another)))))
 
 -- "also as": the set that its NAME may stand in
 unfoldable pub set_of : ℕ → ℕ
 set_of q =
-    cond (eqb q protocol) THREAD-PROPERTIES
-    (cond (eqb q priority) THREAD-PROPERTIES (cond (eqb q timing) COMMUNICATION-PROPERTIES TIMING-PROPERTIES))
+    cond (eqb q protocol) THREAD_PROPERTIES
+    (cond (eqb q priority) THREAD_PROPERTIES (cond (eqb q timing) COMMUNICATION_PROPERTIES TIMING_PROPERTIES))
 
 -- by the kinds of the first four tokens: NAME, or NAME "::" NAME, and no "::" behind it
 unfoldable pub property_by : ℕ → ℕ → ℕ → ℕ → ℕ
@@ -127,11 +127,11 @@ associations_in c = repeat named (association_in c)
 
 -- block = "{" { association } "}"
 unfoldable pub block_in : ℕ → Rule
-block_in c ps ts = quiet (the OPEN-BRACE) ps ts ⨟ associations_in c ⨟ quiet (the CLOSE-BRACE)
+block_in c ps ts = quiet (the OPEN_BRACE) ps ts ⨟ associations_in c ⨟ quiet (the CLOSE_BRACE)
 
 -- [ block ]
 unfoldable pub maybe_block_in : ℕ → Rule
-maybe_block_in c = optionally (is OPEN-BRACE) (block_in c)
+maybe_block_in c = optionally (is OPEN_BRACE) (block_in c)
 
 -- "none" ";" | { rule }
 unfoldable pub none_or : Rule → Rule

@@ -1,7 +1,7 @@
 -- Properties declare nothing, and no Priority over 255 is kept; a section's list declares rows with all their columns where its rule does.
 use Rattle.std.specs.Prelude.{◌≤◌, ◌∷◌, ◌≡◌}
 use Rattle.common.specs.Words.{ℕ, zero, suc, List, [], refl, ap, eqb, get_or, set}
-use Rattle.words.specs.Kinds.{NONE, OPEN-BRACE, CLOSE-BRACE, PROPERTIES}
+use Rattle.words.specs.Kinds.{NONE, OPEN_BRACE, CLOSE_BRACE, PROPERTIES}
 use Rattle.tokens.specs.Tokens.{Token}
 use Rattle.tokens.specs.Laws.{cases}
 use Rattle.steps.specs.Steps.{Step, On, is, named, the}
@@ -48,12 +48,12 @@ associations_wide c = wide_repeat named (association_in c) (association_wide c)
 block_wide : (c : ℕ) → WideOn (block_in c)
 unfolding block_in
 block_wide c ps ts =
-    wide_onward _ (quiet (the CLOSE-BRACE)) (wide_onward _ (associations_in c) (wide_quiet (the OPEN-BRACE) ps ts) (associations_wide c))
-    (wide_quiet (the CLOSE-BRACE))
+    wide_onward _ (quiet (the CLOSE_BRACE)) (wide_onward _ (associations_in c) (wide_quiet (the OPEN_BRACE) ps ts) (associations_wide c))
+    (wide_quiet (the CLOSE_BRACE))
 
 pub maybe_block_wide : (c : ℕ) → WideOn (maybe_block_in c)
 unfolding maybe_block_in
-maybe_block_wide c = wide_optionally (is OPEN-BRACE) (block_in c) (block_wide c)
+maybe_block_wide c = wide_optionally (is OPEN_BRACE) (block_in c) (block_wide c)
 
 pub none_or_wide : (rule : Rule) → WideOn rule → WideOn (none_or rule)
 unfolding none_or

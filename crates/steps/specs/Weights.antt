@@ -5,7 +5,7 @@ use Rattle.common.specs.Words.{get_or, length-drop, length-take-le}
 use Rattle.common.specs.Tests.{and_left, and_right}
 use Rattle.words.specs.Letters.{words_by, same, same_eq}
 use Rattle.words.specs.Words.{listed, rank, first_word, NAME, kind_of}
-use Rattle.words.specs.Kinds.{ENDED, THREAD, PORT, NUMBER, BECOMES, ADDS, ARROW, DELAYING, BOTH-WAYS, SCOPE, DOTS}
+use Rattle.words.specs.Kinds.{ENDED, THREAD, PORT, NUMBER, BECOMES, ADDS, ARROW, DELAYING, BOTH_WAYS, SCOPE, DOTS}
 use Rattle.tokens.specs.declared.Shape.{Shape}
 use Rattle.tokens.specs.Tokens.{Token, sort_of, run, blank, letter, digit, shape, word_shape, number_width, one_of, sign_shape, shape_of, none}
 use Rattle.tokens.specs.Tokens.{tokens_by, from}
@@ -58,7 +58,7 @@ sign_weighs a b c =
     either P (eqb a 0x3d) (one (eqb b 0x3e) BECOMES 2 (omega arith))
     (either P (eqb a 0x2b) (one (eqb b 0x3d && eqb c 0x3e) ADDS 3 (omega arith))
     (either P (eqb a 0x2d) (either P (eqb b 0x3e && eqb c 0x3e) {x = shape DELAYING 3} (omega arith) (one (eqb b 0x3e) ARROW 2 (omega arith)))
-    (either P (eqb a 0x3c) (one (eqb b 0x2d && eqb c 0x3e) BOTH-WAYS 3 (omega arith))
+    (either P (eqb a 0x3c) (one (eqb b 0x2d && eqb c 0x3e) BOTH_WAYS 3 (omega arith))
     (either P (eqb a 0x3a) (one (eqb b 0x3a) SCOPE 2 (omega arith)) (one (eqb a 0x2e && eqb b 0x2e) DOTS 2 (omega arith))))))
 
 -- ## Tokens

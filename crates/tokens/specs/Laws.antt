@@ -12,7 +12,7 @@ use Rattle.tokens.specs.Tokens.{Token, token, sort_of, run, blank, letter, digit
 use Rattle.tokens.specs.Tokens.{shape_of, none, tokens_by, from}
 use Rattle.words.specs.Words.{kind_of}
 use Rattle.words.specs.Found.{kind_from}
-use Rattle.words.specs.Kinds.{ENDED, NUMBER, BECOMES, ADDS, ARROW, DELAYING, BOTH-WAYS, SCOPE, DOTS}
+use Rattle.words.specs.Kinds.{ENDED, NUMBER, BECOMES, ADDS, ARROW, DELAYING, BOTH_WAYS, SCOPE, DOTS}
 
 -- what holds of both holds of the one that a test picks
 pub either : {A : Type 0} (P : A → Type 0) (b : Bool) {x y : A} → P x → P y → P (cond b x y)
@@ -78,7 +78,7 @@ sign_width a b c =
     either P (eqb a 0x3d) (one (eqb b 0x3e) BECOMES 2 (omega arith))
     (either P (eqb a 0x2b) (one (eqb b 0x3d && eqb c 0x3e) ADDS 3 (omega arith))
     (either P (eqb a 0x2d) (either P (eqb b 0x3e && eqb c 0x3e) {x = shape DELAYING 3} (omega arith) (one (eqb b 0x3e) ARROW 2 (omega arith)))
-    (either P (eqb a 0x3c) (one (eqb b 0x2d && eqb c 0x3e) BOTH-WAYS 3 (omega arith))
+    (either P (eqb a 0x3c) (one (eqb b 0x2d && eqb c 0x3e) BOTH_WAYS 3 (omega arith))
     (either P (eqb a 0x3a) (one (eqb b 0x3a) SCOPE 2 (omega arith)) (one (eqb a 0x2e && eqb b 0x2e) DOTS 2 (omega arith))))))
 
 -- a token has a byte at least
@@ -180,7 +180,7 @@ sign_fits bs h =
     either P (eqb a 0x3d) (one (eqb b 0x3e) BECOMES 2 (two 0x3d))
     (either P (eqb a 0x2b) (one (eqb b 0x3d && eqb c 0x3e) ADDS 3 (three 0x3c))
     (either P (eqb a 0x2d) (cases P (eqb b 0x3e && eqb c 0x3e) {x = shape DELAYING 3} (three 0x3d) (λ _. one (eqb b 0x3e) ARROW 2 (two 0x3d)))
-    (either P (eqb a 0x3c) (one (eqb b 0x2d && eqb c 0x3e) BOTH-WAYS 3 (three 0x2c))
+    (either P (eqb a 0x3c) (one (eqb b 0x2d && eqb c 0x3e) BOTH_WAYS 3 (three 0x2c))
     (either P (eqb a 0x3a) (one (eqb b 0x3a) SCOPE 2 (two 0x39))
     (one (eqb a 0x2e && eqb b 0x2e) DOTS 2 (λ e. two 0x2d (and_right (eqb a 0x2e) _ e)))))))
 
@@ -195,7 +195,7 @@ sign_real a b c =
     (either P (eqb a 0x2b) (one (eqb b 0x3d && eqb c 0x3e) ADDS 3 (λ e. omega arith))
     (either P (eqb a 0x2d) (either P (eqb b 0x3e && eqb c 0x3e) {x = shape DELAYING 3}
     (λ e. omega arith) (one (eqb b 0x3e) ARROW 2 (λ e. omega arith)))
-    (either P (eqb a 0x3c) (one (eqb b 0x2d && eqb c 0x3e) BOTH-WAYS 3 (λ e. omega arith))
+    (either P (eqb a 0x3c) (one (eqb b 0x2d && eqb c 0x3e) BOTH_WAYS 3 (λ e. omega arith))
     (either P (eqb a 0x3a) (one (eqb b 0x3a) SCOPE 2 (λ e. omega arith)) (one (eqb a 0x2e && eqb b 0x2e) DOTS 2 (λ e. omega arith))))))
 
 pub shape_real : (bs : List ℕ) → (shape_of bs).kind ≡ ENDED → ⊥

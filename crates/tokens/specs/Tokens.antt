@@ -3,7 +3,7 @@ use Rattle.std.specs.Prelude.{◌+◌, ◌%◌, ◌&&◌, ◌∷◌}
 use Rattle.common.specs.Words.{ℕ, zero, suc, Bool, true, false, cond, List, [], eqb, ltb, leb, length, take, drop, get_or}
 use Rattle.tokens.specs.declared.Shape.{Shape}
 use Rattle.words.specs.Words.{kind_of}
-use Rattle.words.specs.Kinds.{ENDED, NUMBER, BECOMES, ADDS, ARROW, DELAYING, BOTH-WAYS, SCOPE, DOTS}
+use Rattle.words.specs.Kinds.{ENDED, NUMBER, BECOMES, ADDS, ARROW, DELAYING, BOTH_WAYS, SCOPE, DOTS}
 
 -- a token: its kind, its place, "the number of bytes before a token's first byte", and its own bytes
 pub record Token : Type 0 where
@@ -71,7 +71,7 @@ sign_shape a b c =
     cond (eqb a 0x3d) (one_of (eqb b 0x3e) BECOMES 2 a)
     (cond (eqb a 0x2b) (one_of (eqb b 0x3d && eqb c 0x3e) ADDS 3 a)
     (cond (eqb a 0x2d) (cond (eqb b 0x3e && eqb c 0x3e) (shape DELAYING 3) (one_of (eqb b 0x3e) ARROW 2 a))
-    (cond (eqb a 0x3c) (one_of (eqb b 0x2d && eqb c 0x3e) BOTH-WAYS 3 a)
+    (cond (eqb a 0x3c) (one_of (eqb b 0x2d && eqb c 0x3e) BOTH_WAYS 3 a)
     (cond (eqb a 0x3a) (one_of (eqb b 0x3a) SCOPE 2 a)
     (one_of (eqb a 0x2e && eqb b 0x2e) DOTS 2 a)))))
 

@@ -1,8 +1,8 @@
 -- Laws of values: each rule goes on by a token at least, and rules in a row begin from what a rule has said.
 use Rattle.std.specs.Prelude.{◌-◌, ◌<◌, ◌≤◌, ◌⊎◌, ◌≡◌}
 use Rattle.common.specs.Words.{ℕ, zero, suc, arith, true, false, true≢false, cond, List, ⊎_elim, refl, sym, ◌∙◌}
-use Rattle.words.specs.Kinds.{ENDED, ADDS, BECOMES, SCOPE, COMMA, SEMICOLON, OPEN-PAREN, CLOSE-PAREN, OPEN-BRACKET, CLOSE-BRACKET, OPEN-BRACE}
-use Rattle.words.specs.Kinds.{CLOSE-BRACE}
+use Rattle.words.specs.Kinds.{ENDED, ADDS, BECOMES, SCOPE, COMMA, SEMICOLON, OPEN_PAREN, CLOSE_PAREN, OPEN_BRACKET, CLOSE_BRACKET, OPEN_BRACE}
+use Rattle.words.specs.Kinds.{CLOSE_BRACE}
 use Rattle.tokens.specs.Tokens.{Token}
 use Rattle.tokens.specs.Laws.{cases}
 use Rattle.steps.specs.Steps.{Step, On, Stop, ◌⟫◌, next, is, named, stop_at, unfit, any, the, name, many}
@@ -26,7 +26,7 @@ atom_moves ts = cases (Moved 1 ts) (begins_part ts) (λ h. moved_any ts (not_end
 
 part_by_moves : (list fields : List Token → Step) → Moves 1 list → Moves 1 fields → Moves 1 (part_by list fields)
 unfolding part_by
-part_by_moves list fields l f ts = moved_either (is OPEN-PAREN ts) (l ts) (moved_either (is OPEN-BRACKET ts) (f ts) (atom_moves ts))
+part_by_moves list fields l f ts = moved_either (is OPEN_PAREN ts) (l ts) (moved_either (is OPEN_BRACKET ts) (f ts) (atom_moves ts))
 
 module _ (v : List Token → Step) (m : Moves 1 v) where
   pub comma_moves : Moves 2 (comma_by v)
@@ -44,12 +44,12 @@ module _ (v : List Token → Step) (m : Moves 1 v) where
   list_moves : Moves 1 (list_by v)
   unfolding list_by
   list_moves ts =
-      moved_either (is CLOSE-PAREN ts) (moves_the CLOSE-PAREN (λ e. omega arith) ts)
-      (moved_less 1 (omega arith) (moved_then (values_by_moves ts) (the_moves CLOSE-PAREN (λ e. omega arith))))
+      moved_either (is CLOSE_PAREN ts) (moves_the CLOSE_PAREN (λ e. omega arith) ts)
+      (moved_less 1 (omega arith) (moved_then (values_by_moves ts) (the_moves CLOSE_PAREN (λ e. omega arith))))
 
   record_moves : Moves 1 (record_by v)
   unfolding record_by
-  record_moves ts = moved_then (moves_many named (field_by v) (advances named field_moves) ts) (moves_the CLOSE-BRACKET (λ e. omega arith))
+  record_moves ts = moved_then (moves_many named (field_by v) (advances named field_moves) ts) (moves_the CLOSE_BRACKET (λ e. omega arith))
 
 value_by_moves : (p : List Token → Step) → Moves 1 p → Moves 1 (value_by p)
 unfolding value_by
@@ -60,9 +60,9 @@ unfolding part_of
 part_moves zero = part_by_moves (stop_at 23 too_deep) (stop_at 23 too_deep) (λ ts. stopped) (λ ts. stopped)
 part_moves (suc d) =
     let m = value_by_moves (part_of d) (part_moves d) in
-    part_by_moves (λ ts. the OPEN-PAREN ts ⟫ list_by (value_of d)) (λ ts. the OPEN-BRACKET ts ⟫ record_by (value_of d))
-    (λ ts. moved_less 1 (omega arith) (moved_then (moves_the OPEN-PAREN (λ e. omega arith) ts) (list_moves (value_of d) m)))
-    (λ ts. moved_less 1 (omega arith) (moved_then (moves_the OPEN-BRACKET (λ e. omega arith) ts) (record_moves (value_of d) m)))
+    part_by_moves (λ ts. the OPEN_PAREN ts ⟫ list_by (value_of d)) (λ ts. the OPEN_BRACKET ts ⟫ record_by (value_of d))
+    (λ ts. moved_less 1 (omega arith) (moved_then (moves_the OPEN_PAREN (λ e. omega arith) ts) (list_moves (value_of d) m)))
+    (λ ts. moved_less 1 (omega arith) (moved_then (moves_the OPEN_BRACKET (λ e. omega arith) ts) (record_moves (value_of d) m)))
 
 pub value_of_moves : (d : ℕ) → Moves 1 (value_of d)
 value_of_moves d = value_by_moves (part_of d) (part_moves d)
@@ -99,8 +99,8 @@ associations_moves = moves_many named association (advances named association_mo
 pub block_moves : Moves 1 block
 unfolding block
 block_moves ts =
-    moved_less 1 (omega arith) (moved_then (moved_then (moves_the OPEN-BRACE (λ e. omega arith) ts) associations_moves)
-    (the_moves CLOSE-BRACE (λ e. omega arith)))
+    moved_less 1 (omega arith) (moved_then (moved_then (moves_the OPEN_BRACE (λ e. omega arith) ts) associations_moves)
+    (the_moves CLOSE_BRACE (λ e. omega arith)))
 
 -- ## Rules in a row
 
@@ -109,7 +109,7 @@ unfolding association
 association_then (On ts) = refl
 association_then (Stop f) = refl
 
-pub block_then : (s : Step) → s ⟫ the OPEN-BRACE ⟫ associations ⟫ the CLOSE-BRACE ≡ s ⟫ block
+pub block_then : (s : Step) → s ⟫ the OPEN_BRACE ⟫ associations ⟫ the CLOSE_BRACE ≡ s ⟫ block
 unfolding block
 block_then (On ts) = refl
 block_then (Stop f) = refl
@@ -133,7 +133,7 @@ pub field_then : (v : List Token → Step) (s : Step) → s ⟫ name ⟫ the BEC
 field_then v (On ts) = refl
 field_then v (Stop f) = refl
 
-pub record_then : (v : List Token → Step) (s : Step) → (s ⟫ many named (field_by v)) ⟫ the CLOSE-BRACKET ≡ s ⟫ record_by v
+pub record_then : (v : List Token → Step) (s : Step) → (s ⟫ many named (field_by v)) ⟫ the CLOSE_BRACKET ≡ s ⟫ record_by v
 unfolding record_by
 record_then v (On ts) = refl
 record_then v (Stop f) = refl
@@ -149,73 +149,73 @@ unfolding assigns
 assigns_becomes s n = choose_off (is ADDS) (the ADDS) (the BECOMES) s (is_off ADDS s n)
 
 module _ (v : List Token → Step) (s : Step) where
-  pub list_ends : first_kind s ≡ CLOSE-PAREN → s ⟫ the CLOSE-PAREN ≡ s ⟫ list_by v
+  pub list_ends : first_kind s ≡ CLOSE_PAREN → s ⟫ the CLOSE_PAREN ≡ s ⟫ list_by v
   unfolding list_by
-  list_ends e = choose_on (is CLOSE-PAREN) (the CLOSE-PAREN) (λ ts. values_by v ts ⟫ the CLOSE-PAREN) s (is_on CLOSE-PAREN s (λ x. omega arith) e)
+  list_ends e = choose_on (is CLOSE_PAREN) (the CLOSE_PAREN) (λ ts. values_by v ts ⟫ the CLOSE_PAREN) s (is_on CLOSE_PAREN s (λ x. omega arith) e)
 
-  pub list_goes : (first_kind s ≡ CLOSE-PAREN → ⊥) → s ⟫ values_by v ⟫ the CLOSE-PAREN ≡ s ⟫ list_by v
+  pub list_goes : (first_kind s ≡ CLOSE_PAREN → ⊥) → s ⟫ values_by v ⟫ the CLOSE_PAREN ≡ s ⟫ list_by v
   unfolding list_by
   list_goes n =
-      then_then s (values_by v) (the CLOSE-PAREN)
-      ∙ choose_off (is CLOSE-PAREN) (the CLOSE-PAREN) (λ ts. values_by v ts ⟫ the CLOSE-PAREN) s (is_off CLOSE-PAREN s n)
+      then_then s (values_by v) (the CLOSE_PAREN)
+      ∙ choose_off (is CLOSE_PAREN) (the CLOSE_PAREN) (λ ts. values_by v ts ⟫ the CLOSE_PAREN) s (is_off CLOSE_PAREN s n)
 
 module _ (list fields : List Token → Step) (s : Step) where
   other : List Token → Step
-  other ts = cond (is OPEN-BRACKET ts) (fields ts) (cond (begins_part ts) (any ts) (unfit a_value ts))
+  other ts = cond (is OPEN_BRACKET ts) (fields ts) (cond (begins_part ts) (any ts) (unfit a_value ts))
 
   atom : List Token → Step
   atom ts = cond (begins_part ts) (any ts) (unfit a_value ts)
 
-  part_list : first_kind s ≡ OPEN-PAREN → s ⟫ list ≡ s ⟫ part_by list fields
+  part_list : first_kind s ≡ OPEN_PAREN → s ⟫ list ≡ s ⟫ part_by list fields
   unfolding part_by other
-  part_list e = choose_on (is OPEN-PAREN) list other s (is_on OPEN-PAREN s (λ x. omega arith) e)
+  part_list e = choose_on (is OPEN_PAREN) list other s (is_on OPEN_PAREN s (λ x. omega arith) e)
 
-  part_record : first_kind s ≡ OPEN-BRACKET → s ⟫ fields ≡ s ⟫ part_by list fields
+  part_record : first_kind s ≡ OPEN_BRACKET → s ⟫ fields ≡ s ⟫ part_by list fields
   unfolding part_by other atom
   part_record e =
-      choose_on (is OPEN-BRACKET) fields atom s (is_on OPEN-BRACKET s (λ x. omega arith) e)
-      ∙ choose_off (is OPEN-PAREN) list other s (is_off OPEN-PAREN s (λ x. omega (arith, e, x)))
+      choose_on (is OPEN_BRACKET) fields atom s (is_on OPEN_BRACKET s (λ x. omega arith) e)
+      ∙ choose_off (is OPEN_PAREN) list other s (is_off OPEN_PAREN s (λ x. omega (arith, e, x)))
 
-  part_rest : (first_kind s ≡ OPEN-PAREN → ⊥) → (first_kind s ≡ OPEN-BRACKET → ⊥) → s ⟫ atom ≡ s ⟫ part_by list fields
+  part_rest : (first_kind s ≡ OPEN_PAREN → ⊥) → (first_kind s ≡ OPEN_BRACKET → ⊥) → s ⟫ atom ≡ s ⟫ part_by list fields
   unfolding part_by other atom
   part_rest n m =
-      choose_off (is OPEN-BRACKET) fields atom s (is_off OPEN-BRACKET s m) ∙ choose_off (is OPEN-PAREN) list other s (is_off OPEN-PAREN s n)
+      choose_off (is OPEN_BRACKET) fields atom s (is_off OPEN_BRACKET s m) ∙ choose_off (is OPEN_PAREN) list other s (is_off OPEN_PAREN s n)
 
 part_none : part_of 0 ≡ part_by (stop_at 23 too_deep) (stop_at 23 too_deep)
 unfolding part_of
 part_none = refl
 
 part_some : (d : ℕ) → 0 < d →
-    part_of d ≡ part_by (λ ts. the OPEN-PAREN ts ⟫ list_by (value_of (d - 1))) (λ ts. the OPEN-BRACKET ts ⟫ record_by (value_of (d - 1)))
+    part_of d ≡ part_by (λ ts. the OPEN_PAREN ts ⟫ list_by (value_of (d - 1))) (λ ts. the OPEN_BRACKET ts ⟫ record_by (value_of (d - 1)))
 unfolding part_of
 part_some zero h = absurd (omega arith)
 part_some (suc d) h = let e : suc d - 1 ≡ d = omega arith in rw e
 
 module _ (d : ℕ) (s : Step) where
-  pub part_too_deep : d ≡ 0 → (first_kind s ≡ OPEN-PAREN) ⊎ (first_kind s ≡ OPEN-BRACKET) → s ⟫ stop_at 23 too_deep ≡ s ⟫ part_of d
+  pub part_too_deep : d ≡ 0 → (first_kind s ≡ OPEN_PAREN) ⊎ (first_kind s ≡ OPEN_BRACKET) → s ⟫ stop_at 23 too_deep ≡ s ⟫ part_of d
   part_too_deep z h =
       rw (z, part_none)
-      (⊎_elim (λ (e : first_kind s ≡ OPEN-PAREN). part_list (stop_at 23 too_deep) (stop_at 23 too_deep) s e)
-      (λ (e : first_kind s ≡ OPEN-BRACKET). part_record (stop_at 23 too_deep) (stop_at 23 too_deep) s e) h)
+      (⊎_elim (λ (e : first_kind s ≡ OPEN_PAREN). part_list (stop_at 23 too_deep) (stop_at 23 too_deep) s e)
+      (λ (e : first_kind s ≡ OPEN_BRACKET). part_record (stop_at 23 too_deep) (stop_at 23 too_deep) s e) h)
 
-  pub part_opens : 0 < d → first_kind s ≡ OPEN-PAREN → s ⟫ the OPEN-PAREN ⟫ list_by (value_of (d - 1)) ≡ s ⟫ part_of d
-  part_opens h e = rw (part_some d h) (then_then s (the OPEN-PAREN) (list_by (value_of (d - 1))) ∙ part_list _ _ s e)
+  pub part_opens : 0 < d → first_kind s ≡ OPEN_PAREN → s ⟫ the OPEN_PAREN ⟫ list_by (value_of (d - 1)) ≡ s ⟫ part_of d
+  part_opens h e = rw (part_some d h) (then_then s (the OPEN_PAREN) (list_by (value_of (d - 1))) ∙ part_list _ _ s e)
 
-  pub part_holds : 0 < d → first_kind s ≡ OPEN-BRACKET → s ⟫ the OPEN-BRACKET ⟫ record_by (value_of (d - 1)) ≡ s ⟫ part_of d
-  part_holds h e = rw (part_some d h) (then_then s (the OPEN-BRACKET) (record_by (value_of (d - 1))) ∙ part_record _ _ s e)
+  pub part_holds : 0 < d → first_kind s ≡ OPEN_BRACKET → s ⟫ the OPEN_BRACKET ⟫ record_by (value_of (d - 1)) ≡ s ⟫ part_of d
+  part_holds h e = rw (part_some d h) (then_then s (the OPEN_BRACKET) (record_by (value_of (d - 1))) ∙ part_record _ _ s e)
 
-  part_by_lem : (first_kind s ≡ OPEN-PAREN → ⊥) → (first_kind s ≡ OPEN-BRACKET → ⊥) →
+  part_by_lem : (first_kind s ≡ OPEN_PAREN → ⊥) → (first_kind s ≡ OPEN_BRACKET → ⊥) →
       s ⟫ (λ ts. cond (begins_part ts) (any ts) (unfit a_value ts)) ≡ s ⟫ part_of d
   unfolding atom
   part_by_lem n m =
       ⊎_elim (λ (l : 0 < d). rw (part_some d l) (part_rest _ _ s n m)) (λ (g : d ≤ 0). let z : d ≡ 0 = omega arith in
       rw (z, part_none) (part_rest _ _ s n m)) (lt_or_le 0 d)
 
-  pub part_atom : (first_kind s ≡ OPEN-PAREN → ⊥) → (first_kind s ≡ OPEN-BRACKET → ⊥) →
+  pub part_atom : (first_kind s ≡ OPEN_PAREN → ⊥) → (first_kind s ≡ OPEN_BRACKET → ⊥) →
       part_kind (first_kind s) ≡ true → s ⟫ any ≡ s ⟫ part_of d
   unfolding part_kind
   part_atom n m h = choose_on begins_part any (unfit a_value) s (kind_on part_kind s refl h) ∙ part_by_lem n m
 
-  pub part_unfit : (first_kind s ≡ OPEN-PAREN → ⊥) → (first_kind s ≡ OPEN-BRACKET → ⊥) →
+  pub part_unfit : (first_kind s ≡ OPEN_PAREN → ⊥) → (first_kind s ≡ OPEN_BRACKET → ⊥) →
       part_kind (first_kind s) ≡ false → s ⟫ unfit a_value ≡ s ⟫ part_of d
   part_unfit n m h = choose_off begins_part any (unfit a_value) s (kind_off part_kind s h) ∙ part_by_lem n m

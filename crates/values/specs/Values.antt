@@ -1,7 +1,7 @@
 -- AADL.md, section 2: values of properties, associations and blocks of them, as they are skipped.
 use Rattle.common.specs.Words.{ℕ, zero, suc, Bool, true, false, cond, List, eqb}
-use Rattle.words.specs.Kinds.{ENDED, END, BECOMES, ADDS, SCOPE, COMMA, SEMICOLON, OPEN-PAREN, CLOSE-PAREN, OPEN-BRACKET, CLOSE-BRACKET, OPEN-BRACE}
-use Rattle.words.specs.Kinds.{CLOSE-BRACE}
+use Rattle.words.specs.Kinds.{ENDED, END, BECOMES, ADDS, SCOPE, COMMA, SEMICOLON, OPEN_PAREN, CLOSE_PAREN, OPEN_BRACKET, CLOSE_BRACKET, OPEN_BRACE}
+use Rattle.words.specs.Kinds.{CLOSE_BRACE}
 use Rattle.tokens.specs.Tokens.{Token}
 use Rattle.steps.specs.Steps.{Step, ◌⟫◌, next, is, named, stop_at, unfit, any, the, name, many}
 
@@ -15,10 +15,10 @@ too_deep = 0x302
 -- a part begins with a bracket that opens or is an atom: "any token but ( ) [ ] { } , ; => +=> "end" and the text's end"
 unfoldable pub part_kind : ℕ → Bool
 part_kind k =
-    cond (eqb k CLOSE-PAREN) false
-    (cond (eqb k CLOSE-BRACKET) false
-    (cond (eqb k OPEN-BRACE) false
-    (cond (eqb k CLOSE-BRACE) false
+    cond (eqb k CLOSE_PAREN) false
+    (cond (eqb k CLOSE_BRACKET) false
+    (cond (eqb k OPEN_BRACE) false
+    (cond (eqb k CLOSE_BRACE) false
     (cond (eqb k COMMA) false
     (cond (eqb k SEMICOLON) false
     (cond (eqb k BECOMES) false
@@ -42,27 +42,27 @@ values_by value ts = value ts ⟫ many (is COMMA) (comma_by value)
 
 -- a list from behind its bracket on: [ value { "," value } ] ")"
 unfoldable pub list_by : (List Token → Step) → List Token → Step
-list_by value ts = let some = values_by value ts ⟫ the CLOSE-PAREN in cond (is CLOSE-PAREN ts) (the CLOSE-PAREN ts) some
+list_by value ts = let some = values_by value ts ⟫ the CLOSE_PAREN in cond (is CLOSE_PAREN ts) (the CLOSE_PAREN ts) some
 
 -- a record from behind its bracket on: { NAME "=>" value ";" } "]"
 abbrev pub field_by : (List Token → Step) → List Token → Step
 field_by value ts = name ts ⟫ the BECOMES ⟫ value ⟫ the SEMICOLON
 
 unfoldable pub record_by : (List Token → Step) → List Token → Step
-record_by value ts = many named (field_by value) ts ⟫ the CLOSE-BRACKET
+record_by value ts = many named (field_by value) ts ⟫ the CLOSE_BRACKET
 
 -- part = "(" .. ")" | "[" .. "]" | atom, by what the brackets hold
 unfoldable pub part_by : (List Token → Step) → (List Token → Step) → List Token → Step
 part_by list fields ts =
     let opens = list ts in
     let holds = fields ts in
-    cond (is OPEN-PAREN ts) opens (cond (is OPEN-BRACKET ts) holds (cond (begins_part ts) (any ts) (unfit a_value ts)))
+    cond (is OPEN_PAREN ts) opens (cond (is OPEN_BRACKET ts) holds (cond (begins_part ts) (any ts) (unfit a_value ts)))
 
 -- "a ninth open ( or [ within one value is 23 at the bracket": d more brackets may open
 unfoldable pub part_of : ℕ → List Token → Step
 part_of zero = part_by (stop_at 23 too_deep) (stop_at 23 too_deep)
 part_of (suc d) =
-    part_by (λ ts. the OPEN-PAREN ts ⟫ list_by (value_by (part_of d))) (λ ts. the OPEN-BRACKET ts ⟫ record_by (value_by (part_of d)))
+    part_by (λ ts. the OPEN_PAREN ts ⟫ list_by (value_by (part_of d))) (λ ts. the OPEN_BRACKET ts ⟫ record_by (value_by (part_of d)))
 
 abbrev pub value_of : ℕ → List Token → Step
 value_of d = value_by (part_of d)
@@ -98,4 +98,4 @@ associations = many named association
 
 -- block = "{" { association } "}"
 unfoldable pub block : List Token → Step
-block ts = the OPEN-BRACE ts ⟫ associations ⟫ the CLOSE-BRACE
+block ts = the OPEN_BRACE ts ⟫ associations ⟫ the CLOSE_BRACE

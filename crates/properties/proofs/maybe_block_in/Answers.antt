@@ -1,6 +1,6 @@
 -- `properties::maybe_block_in`.
 use Rattle.common.specs.Words.{rules, sym, ◌∙◌, arith}
-use Rattle.words.specs.Kinds.{OPEN-BRACE}
+use Rattle.words.specs.Kinds.{OPEN_BRACE}
 use Rattle.steps.specs.Steps.{is}
 use Rattle.steps.specs.Laws.{is_on, is_off}
 use Rattle.rows.specs.States.{state_of}
@@ -17,8 +17,8 @@ pub returns-then-next_of-ne-OPEN_BRACE : goal.returns-then-next_of-ne-OPEN_BRACE
 unfolding maybe_block_in
 returns-then-next_of-ne-OPEN_BRACE c =
     let a = c.args in
-    λ m. let s = state_of a.text.now a.reading m in optionally_off (is OPEN-BRACE) (block_in a.of) s
-    (is_off OPEN-BRACE s.went (λ e. c.if-next_of-ne-OPEN_BRACE.true (c.next_of.ensures ∙ e)))
+    λ m. let s = state_of a.text.now a.reading m in optionally_off (is OPEN_BRACE) (block_in a.of) s
+    (is_off OPEN_BRACE s.went (λ e. c.if-next_of-ne-OPEN_BRACE.true (c.next_of.ensures ∙ e)))
 
 pub symbol_on-requires : goal.symbol_on-requires
 unfolding maybe_block_in
@@ -38,5 +38,5 @@ returns c =
     let k = c in let a = k.args in
     λ m. let s = state_of a.text.now a.reading m in
     rw (c.symbol_on-2.ensures m, c.associations_in-inner.ensures m, c.symbol_on.ensures m)
-    (block_does a.of s ∙ optionally_on (is OPEN-BRACE) (block_in a.of) s
-    (is_on OPEN-BRACE s.went (λ e. omega arith) (sym k.next_of.ensures ∙ k.if-next_of-ne-OPEN_BRACE.false)))
+    (block_does a.of s ∙ optionally_on (is OPEN_BRACE) (block_in a.of) s
+    (is_on OPEN_BRACE s.went (λ e. omega arith) (sym k.next_of.ensures ∙ k.if-next_of-ne-OPEN_BRACE.false)))
