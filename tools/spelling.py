@@ -84,6 +84,9 @@ def table(antt, rt):
     libraries = from_libraries(antt + rt)
     turned = {}
     for name, signatures in found.items():
+        if re.fullmatch(r'[A-Z]+(-[A-Z]+)+', name):
+            turned[name] = name.replace('-', '_')  # a constant of two words
+            continue
         if name in libraries or name[0].isupper() or '◌' in name or all(is_answer(s) for s in signatures):
             continue
         if snake(name) != name:
