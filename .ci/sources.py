@@ -19,23 +19,36 @@ def without_comment(line):
     return re.sub(r'(^|\s)(--|//).*', '', line).rstrip()
 
 
-def private(crate, file):
-    """The file is part of a program or of the trials, which nobody calls, or a module that its library keeps to itself."""
-    root = f'crates/{crate}/src/lib.rt'
-    return crate.startswith('trial') or not os.path.exists(root) or bool(re.search(rf'^mod {file};', read(root), re.M))
+def private(crate):
+    """The crate is a program or part of the trials, which nobody calls."""
+    return crate.startswith('trial') or not os.path.exists(f'crates/{crate}/src/lib.rt')
+
+
+def passed_on(crate, file):
+    """What a library passes on of a module that it keeps to itself; None where the module itself is public."""
+    root = read(f'crates/{crate}/src/lib.rt')
+    if not re.search(rf'^mod {file};', root, re.M):
+        return None
+    uses = re.findall(rf'^pub use (?:crate::)?{file}::(?:\{{([^}}]*)\}}|(\w+));', root, re.M)
+    return {name.strip() for several, one in uses for name in (several or one).split(',')}
 
 
 def public_functions():
     for path in sorted(glob.glob('crates/*/src/*.rt')):
         crate, file = path.split(os.sep)[1], os.path.basename(path)[:-3]
-        if not private(crate, file):
-            yield from functions_in(path, crate + '::', '' if file == 'lib' else file + '::')
+        if private(crate):
+            continue
+        names = passed_on(crate, file)
+        module = '' if file == 'lib' or names is not None else file + '::'
+        for function in functions_in(path, crate + '::', module):
+            if names is None or function.name.split('::')[1] in names:
+                yield function
 
 
 def functions_in(path, crate, module):
     owner, name, contract = '', None, []  # owner: the type whose impl block we are in
     for line in read(path).splitlines():
-        block = re.match(r'impl (\w+)', line)
+        block = re.match(r'impl(?:<[^{]*?>)? (\w+)', line)
         if block:
             owner = block.group(1) + '::'
         if line.startswith('}'):
@@ -45,7 +58,7 @@ def functions_in(path, crate, module):
             name, contract = crate + (owner or module) + found.group(2) if found.group(1) else None, []
         if name and (contract or line.strip().startswith(('requires', 'ensures'))):
             contract.append(without_comment(line))
-        if name and (line.strip() == '{' or line.endswith(') {') or re.search(r'-> [\w:]+ \{$', line)):
+        if name and (line.strip() == '{' or line.endswith(') {') or re.search(r'-> [\w:<>\[\]&\' ,]+ \{$', line)):
             yield Function(name, path, '\n'.join(contract))
             name = None
 

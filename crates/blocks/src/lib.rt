@@ -3,102 +3,64 @@
 // tests the built programs. Leans on std's three streams alone.
 #![tactic(auto)]
 
-ghost use Rattle.std.specs.Prelude.{◌<◌, ◌≤◌, true, ◌≡◌, length};
-ghost use Rattle.blocks.specs.Stream.{Came, Gone, closed, most_blocks};
+ghost use Rattle.std.specs.Prelude.{◌<◌, ◌≤◌, ◌≡◌, length};
+ghost use Rattle.blocks.specs.Stream.{Came, Gone, is_open, most_blocks};
 
 use std::io::{Read, Stderr, Stdin, Stdout};
 
-// Whether a program has to go on. Its fields are this crate's own, so that only a read that gave nothing and a write that failed close a
-// stream: a program whose contract asks for a closed one cannot give up before. A proved loop has to end, and nothing says that the
-// input does: so a stream counts its blocks down, from a number that no run uses up.
+// Whether a program has to go on: how many blocks may still come, and None where the stream is closed. The field is this crate's own, so
+// that only a read that gave nothing and a write that failed close a stream: a program whose contract asks for a closed one cannot give
+// up before. A proved loop has to end, and nothing says that the input does: so blocks count down, from a number that no run uses up.
 #[derive(Clone, Copy)]
 pub struct Stream {
-    is_open: bool,
-    left: u64,
-}
-
-// A stream after a read, and how many bytes came.
-#[derive(Drop)]
-pub struct Reading {
-    pub stream: Stream,
-    pub bytes: usize,
+    left: Option<u64>,
 }
 
 impl Stream {
     // Nothing was read or written yet.
     pub fn open() -> Stream
-        ensures { result ≡ record { is_open = true; left = most_blocks } }
+        ensures { result ≡ record { left = Some most_blocks } }
     {
         Stream {
-            is_open: true,
-            left: u64::MAX,
+            left: Some(u64::MAX),
         }
     }
 
-    pub fn goes_on(self) -> bool
-        ensures { result ≡ self.is_open }
+    pub fn goes_on(&self) -> bool
+        ensures { result ≡ is_open self.now }
     {
-        self.is_open
+        self.left.is_some()
     }
 
-    // Reads what there is, once; nothing comes at the end of the input. It does not wait for a full block, so that a person or a pipe
-    // has the answer to a line before the next one is asked for.
-    pub fn read_block(self, mut stdin: Stdin, block: &mut [u8]) -> Reading
+    // Reads what there is, once, and answers how many bytes came; None closes the stream, at the end of the input. It does not wait for
+    // a full block, so that a person or a pipe has the answer to a line before the next one is asked for.
+    pub fn read_block(&mut self, mut stdin: Stdin, block: &mut [u8]) -> Option<usize>
         requires { 0 < length block.old }
-        ensures { Came self (length block.old) result }
+        ensures { Came self.old (length block.old) result self.new }
     {
-        if self.left == 0 {
-            return self.ended();
-        }
+        // until a block has come the stream is closed
+        let left = self.left.take()?.checked_sub(1)?;
         let bytes = stdin.read(block).unwrap_or(0);
         if bytes == 0 {
-            return self.ended();
+            return None;
         }
-        Reading {
-            stream: Stream {
-                is_open: self.is_open,
-                left: self.left - 1,
-            },
-            bytes,
-        }
+        self.left = Some(left);
+        Some(bytes)
     }
 
-    fn ended(self) -> Reading
-        ensures { result ≡ record { stream = closed self; bytes = 0 } }
+    // Where answers cannot be written nobody reads them any more, and the stream is closed.
+    pub fn write_answers(&mut self, stdout: Stdout, answers: &[u8])
+        ensures { Gone self.old self.new }
     {
-        Reading {
-            stream: Stream {
-                is_open: false,
-                left: self.left,
-            },
-            bytes: 0,
+        if stdout.write_all(answers).is_err() {
+            self.left = None;
         }
-    }
-
-    fn closed(self) -> Stream
-        ensures { result ≡ closed self }
-    {
-        Stream {
-            is_open: false,
-            left: self.left,
-        }
-    }
-
-    // Writes the first `written` bytes of a buffer. Where they cannot be written nobody reads them any more, and the stream is closed.
-    pub fn write_answers(self, stdout: Stdout, out: &[u8], written: usize) -> Stream
-        requires { written ≤ length out.now }
-        ensures { Gone self result }
-    {
-        if stdout.write_all(&out[..written]).is_ok() {
-            return self;
-        }
-        self.closed()
     }
 }
 
-// Reads the input from its start into a buffer, until it ends or the buffer is full, and answers how many bytes came.
-pub fn read_text(mut stdin: Stdin, text: &mut [u8]) -> usize
-    ensures { result ≤ length text.new }
+// Reads the input from its start into a buffer, until it ends or the buffer is full, and answers what came.
+pub fn read_text(mut stdin: Stdin, text: &mut [u8]) -> &[u8]
+    ensures { length result.now ≤ length text.old }
 {
     let mut done = 0;
     while done < text.len() {
@@ -108,12 +70,10 @@ pub fn read_text(mut stdin: Stdin, text: &mut [u8]) -> usize
         }
         done += n;
     }
-    done
+    &text[..done]
 }
 
-// The first `written` bytes of a buffer, for a person. Nothing depends on whether they could be written.
-pub fn write_words(stderr: Stderr, words: &[u8], written: usize)
-    requires { written ≤ length words.now }
-{
-    let _ = stderr.write_all(&words[..written]);
+// Words for a person. Nothing depends on whether they could be written.
+pub fn write_words(stderr: Stderr, words: &[u8]) {
+    let _ = stderr.write_all(words);
 }

@@ -8,19 +8,19 @@ ghost use Rattle.model.specs.Model.{Queue, receiver_deadline, wanted_for, count,
 ghost use Rattle.calendar.specs.Calendar.{tick, job, capped};
 
 // A moment, counted from tick 0.
-#[derive(Clone, Copy)]
+#[derive(Clone, Copy, PartialEq, Eq, PartialOrd, Ord)]
 pub struct Tick(pub u64);
 
 // A task's job, counted from job 0, which is released at tick 0.
-#[derive(Clone, Copy)]
+#[derive(Clone, Copy, PartialEq, Eq, PartialOrd, Ord)]
 pub struct Job(pub u64);
 
 // A queue's message, counted from 1. Number 0 is no message's.
-#[derive(Clone, Copy)]
+#[derive(Clone, Copy, PartialEq, Eq, PartialOrd, Ord)]
 pub struct Number(pub u64);
 
 // A slot, counted from slot 0.
-#[derive(Clone, Copy)]
+#[derive(Clone, Copy, PartialEq, Eq, PartialOrd, Ord)]
 pub struct Slot(pub usize);
 
 // The tick at which a job is released.
@@ -61,11 +61,7 @@ pub fn has_deadline(period: u64, deadline: u64, at: Tick) -> bool
     requires { (1 ≤ period) × (1 ≤ deadline) }
     ensures { result ≡ has_deadline period deadline at.0 }
 {
-    if at.0 < deadline {
-        false
-    } else {
-        (at.0 - deadline) % period == 0
-    }
+    deadline <= at.0 && (at.0 - deadline) % period == 0
 }
 
 // For how many ticks after one of its releases a receiver with this deadline wants the messages that it is given then.
@@ -82,22 +78,15 @@ pub fn gcd(a: u64, b: u64) -> u64
     if b == 0 { a } else { gcd(b, a % b) }
 }
 
-// A common multiple that is looked for only up to a limit.
-#[derive(Clone, Copy)]
-pub enum Multiple {
-    Within(u64),
-    Over,
-}
-
 // The least common multiple of two periods where it is within the limit. It divides before it multiplies and compares by a quotient,
 // so nothing overflows.
-pub fn common_multiple(a: u64, b: u64, limit: u64) -> Multiple
+pub fn common_multiple(a: u64, b: u64, limit: u64) -> Option<u64>
     requires { (1 ≤ a) × (1 ≤ b) }
     ensures { result ≡ capped limit (lcm a b) }
 {
     let factor = b / gcd(a, b);
     if limit / a < factor {
-        return Multiple::Over;
+        return None;
     }
-    Multiple::Within(a * factor)
+    Some(a * factor)
 }

@@ -1,11 +1,12 @@
 -- Frames 04 and 05: what a call's line does to a state and to the lent memory, and the line that answers it. They are the calls of the
 -- mailbox, on the plan and the state that the console keeps.
+use Rattle.std.specs.Prelude.{Result, Ok, Err}
 use Rattle.common.specs.Words.{ℕ, Bool, true, false, cond, List, replicate}
 use Rattle.plan.specs.Limits.{payload_bytes}
 use Rattle.mailbox.specs.Calls.{send_answer, send_state, send_memory, look, receive_state}
 use Rattle.running.specs.View.{view_of}
 use Rattle.frames.specs.Answers.{stored_bytes, message_bytes, gap_bytes, empty_bytes, refusal_bytes, bad_bytes, line_of}
-use Rattle.calls.specs.Types.{Tick, Plan, State, Sent, Received, Frame}
+use Rattle.calls.specs.Types.{Tick, Plan, Refusal, State, Stored, Received, Frame}
 
 -- 04, 05 and a frame that means nothing leave the table alone
 abbrev pub is_call : Frame → Bool
@@ -16,9 +17,9 @@ is_call (Frame.Send q i t) = true
 is_call (Frame.Receive q t) = true
 is_call Frame.Bad = true
 
-abbrev pub sent_bytes : Sent → List ℕ
-sent_bytes (Sent.Stored n s) = stored_bytes n.0 s.0
-sent_bytes (Sent.Refused r) = refusal_bytes r
+abbrev pub sent_bytes : Result Stored Refusal → List ℕ
+sent_bytes (Ok it) = stored_bytes it.number.0 it.slot.0
+sent_bytes (Err r) = refusal_bytes r
 
 -- what a call's line comes to: the state and the memory after it, and the bytes of the line that answers it
 pub record CallDone : Type 0 where

@@ -1,5 +1,5 @@
--- Frames 04 and 05 as the code takes them: what a call leaves of the columns that it is lent makes the call of the definition.
-use Rattle.std.specs.Prelude.{◌≤◌, ◌&&◌, ◌≡◌}
+-- Frames 04 and 05 as the code takes them: what a call leaves of the state that it is lent is what the definition says.
+use Rattle.std.specs.Prelude.{◌≤◌, ◌&&◌, ◌≡◌, Result}
 use Rattle.common.specs.Words.{ℕ, arith, Bool, true, false, cond, List, [], refl, length, length-take, length-drop, sets}
 use Rattle.plan.specs.Limits.{payload_bytes}
 use Rattle.slots.specs.Slots as slots
@@ -8,32 +8,26 @@ use Rattle.running.specs.View.{slot_inside, filler_fits, view_of}
 use Rattle.mailbox.specs.Calls.{send_state, receive_state}
 use Rattle.frames.specs.Answers.{bad_bytes, message_bytes}
 use Rattle.frames.specs.Writing.{Written}
-use Rattle.calls.specs.Types.{Tick, Number, Slot, Plan, State, SentAt, Received, ReceivedAt, Frame}
+use Rattle.calls.specs.Types.{Tick, Number, Slot, Refusal, Plan, State, Stored, Received, Frame}
 use Rattle.calls.specs.CallLines.{CallDone, unmoved, sent_bytes, send_call, filler, received_bytes, receive_call, call_of}
 
-abbrev pub state_of : Tick → List ℕ → List ℕ → State
-state_of before sent reading = record { tick = before; sent = sent; reading = reading }
-
--- a function that takes a call leaves this tick, as many bytes written, these columns, this memory and this buffer
-abbrev pub Leaves : CallDone → List ℕ → Tick → ℕ → List ℕ → List ℕ → List ℕ → List ℕ → Type 0
-Leaves c out tick written sent reading memory out' =
-    (state_of tick sent reading ≡ c.state) × (written ≡ length c.answer) × (memory ≡ c.memory)
-    × (out' ≡ sets out 0 c.answer)
+-- a function that takes a call leaves this state, as many bytes written, this memory and this buffer
+abbrev pub Leaves : CallDone → List ℕ → State → ℕ → List ℕ → List ℕ → Type 0
+Leaves c out state written memory out' =
+    (state ≡ c.state) × (written ≡ length c.answer) × (memory ≡ c.memory) × (out' ≡ sets out 0 c.answer)
 
 -- a line that changes nothing
-pub bad_left : (before : Tick) (sent reading m out : List ℕ) {n : ℕ} {out' : List ℕ} → Written bad_bytes out n out' →
-    Leaves (unmoved (state_of before sent reading) m) out before n sent reading m out'
-bad_left before sent reading m out w = (refl, w.0, refl, w.1)
+pub bad_left : (s : State) (m out : List ℕ) {n : ℕ} {out' : List ℕ} → Written bad_bytes out n out' → Leaves (unmoved s m) out s n m out'
+bad_left s m out w = (refl, w.0, refl, w.1)
 
 -- ## 04
 
-pub send_left : (before : Tick) (sent : List ℕ) (p : Plan) (m : List ℕ) (q i : ℕ) (t : Tick) (payload out reading : List ℕ) {r : SentAt}
-    {sent' memory : List ℕ} {n : ℕ} {out' : List ℕ} →
-    running.SendLeaves before.0 sent p m q i t.0 payload r sent' memory →
-    Written (sent_bytes r.answer) out n out' →
-    Leaves (send_call p (state_of before sent reading) m q i t payload) out r.tick n sent' reading memory out'
+pub send_left : (s : State) (p : Plan) (m : List ℕ) (q i : ℕ) (t : Tick) (payload out : List ℕ) {r : Result Stored Refusal} {latest : Tick}
+    {sent memory : List ℕ} {n : ℕ} {out' : List ℕ} → running.SendLeaves s.tick.0 s.sent p m q i t.0 payload r latest sent memory →
+    Written (sent_bytes r) out n out' →
+    Leaves (send_call p s m q i t payload) out (record { tick = latest; sent = sent; reading = s.reading }) n memory out'
 unfolding send_state
-send_left before sent p m q i t payload out reading e w = let l = rw e.0 at w in (rw (e.0, e.1), l.0, e.2, l.1)
+send_left s p m q i t payload out e w = let l = rw e.0 at w in (rw (e.1, e.2), l.0, e.3, l.1)
 
 -- ## 05
 
@@ -54,12 +48,12 @@ pub message_line_lem : (a : Received) (n : Number) (s : Slot) (m payload out out
     Written (received_bytes m a) out k out'
 message_line_lem a n s m payload out out' k e f w = rw e (rw f at w)
 
-pub receive_left : (before : Tick) (reading : List ℕ) (p : Plan) (m : List ℕ) (q : ℕ) (t : Tick) (out sent : List ℕ) (r : ReceivedAt)
-    {reading' : List ℕ} {n : ℕ} {out' : List ℕ} → running.ReceiveLeaves before.0 reading p m q t.0 r reading' →
-    Written (received_bytes m r.answer) out n out' →
-    Leaves (receive_call p (state_of before sent reading) m q t) out r.tick n sent reading' m out'
+pub receive_left : (s : State) (p : Plan) (m : List ℕ) (q : ℕ) (t : Tick) (out : List ℕ) {r : Received} {latest : Tick} {reading : List ℕ}
+    {n : ℕ} {out' : List ℕ} → running.ReceiveLeaves s.tick.0 s.reading p m q t.0 r latest reading →
+    Written (received_bytes m r) out n out' →
+    Leaves (receive_call p s m q t) out (record { tick = latest; sent = s.sent; reading = reading }) n m out'
 unfolding receive_state
-receive_left before reading p m q t out sent r e w = let l = rw e.0 at w in (rw (e.1, e.2), l.0, refl, l.1)
+receive_left s p m q t out e w = let l = rw e.0 at w in (rw (e.1, e.2), l.0, refl, l.1)
 
 -- ## Neither, where the code has told it from both
 

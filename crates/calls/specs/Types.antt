@@ -3,9 +3,8 @@ pub use Rattle.calendar.specs.declared.Number.{Number}
 pub use Rattle.calendar.specs.declared.Slot.{Slot}
 pub use Rattle.calendar.specs.declared.Tick.{Tick}
 pub use Rattle.plan.specs.declared.Plan.{Plan}
+pub use Rattle.plan.specs.declared.refusal.Refusal.{Refusal}
 pub use Rattle.running.specs.declared.Received.{Received}
-pub use Rattle.running.specs.declared.ReceivedAt.{ReceivedAt}
-pub use Rattle.running.specs.declared.Sent.{Sent}
-pub use Rattle.running.specs.declared.SentAt.{SentAt}
+pub use Rattle.running.specs.declared.Stored.{Stored}
 pub use Rattle.mailbox.specs.declared.State.{State}
 pub use Rattle.frames.specs.declared.frame.Frame.{Frame}

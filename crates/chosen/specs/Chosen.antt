@@ -3,7 +3,7 @@ use Rattle.std.specs.Prelude.{◌&&◌, ◌∷◌, ◌++◌}
 use Rattle.common.specs.Words.{ℕ, zero, suc, Bool, cond, List, [], eqb, ltb, length, get_or}
 use Rattle.common.specs.Table.{table}
 use Rattle.rows.specs.Rows.{Row, a_thread, a_link}
-use Rattle.ways.specs.Ways.{cell}
+use Rattle.index.specs.Index.{cell}
 use Rattle.verdict.specs.Verdict.{is_first}
 use Rattle.plan.specs.Limits.{task_limit}
 use Rattle.chosen.specs.declared.Chosen.{Chosen}

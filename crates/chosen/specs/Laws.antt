@@ -1,12 +1,14 @@
 -- Laws of choosing: one row more, and what was chosen is below the count.
-use Rattle.std.specs.Prelude.{◌+◌, ◌<◌, ◌≤◌, ◌∷◌, ◌++◌, ◌≡◌}
+use Rattle.std.specs.Prelude.{Some, None, IfSome, ◌&&◌, ◌+◌, ◌<◌, ◌≤◌, ◌∷◌, ◌++◌, ◌≡◌}
 use Rattle.common.specs.Words.{ℕ, zero, suc, arith, add-one, Bool, true, false, cond, List, [], append-nil, refl, sym, ap, ◌∙◌, ⊎_elim, eqb}
 use Rattle.common.specs.Words.{eqb-true, eqb-false, ltb, lt-ltb, le-ltb, length, length-append, length-set, length-replicate, get_or, get_or-append}
-use Rattle.common.specs.Words.{get_or-eq_default, get_or_at, get_or-set_same, get_or-set_other, get_or-replicate, ext_get_or, set, replicate}
+use Rattle.common.specs.Words.{get_or-eq_default, get_or_at, get_or-set_same, get_or-set_other, get_or-replicate, ext_get_or, set, replicate, subst}
 use Rattle.common.specs.Tests.{lt_or_le, true_or_false}
 use Rattle.common.specs.Table.{table_length, table_at}
-use Rattle.index.specs.Index.{rows_in}
+use Rattle.rows.specs.Rows.{a_thread, a_link}
+use Rattle.index.specs.Index.{cell, rows_in}
 use Rattle.index.specs.Laws.{rows_length}
+use Rattle.verdict.specs.Verdict.{is_first}
 use Rattle.plan.specs.Limits.{task_limit}
 use Rattle.chosen.specs.declared.Chosen.{Chosen}
 use Rattle.chosen.specs.Chosen.{chosen_below, threads_of, queues_of, held, chosen, at_or}
@@ -159,3 +161,31 @@ pub queue_row : (p : List ℕ) (count : ℕ) (m : List ℕ) {x : Chosen} →
     get_or x.rows i 0 < count
 unfolding queues_of
 queue_row p count m e i l h = rw (rows_length count m) at (chosen_row _ (length (rows_in count m)) e i l h)
+
+-- the row at i of what was chosen is there
+there : (so : ℕ → Bool) (n i : ℕ) → IfSome (at_or (chosen_below so n) Some None i) (λ k. k < n)
+there so n i =
+    ⊎_elim (λ (l : i < length (chosen_below so n)). rw (lt-ltb i (length (chosen_below so n)) l) (chosen_below_lem so n i l))
+    (λ (h : length (chosen_below so n) ≤ i). rw (le-ltb i (length (chosen_below so n)) h) tt) (lt_or_le i (length (chosen_below so n)))
+
+pub thread_there : (count : ℕ) (m : List ℕ) (i : ℕ) → IfSome (at_or (threads_of (rows_in count m)) Some None i) (λ k. k < count)
+unfolding threads_of
+thread_there count m i =
+    subst (λ (n : ℕ). IfSome (at_or (threads_of (rows_in count m)) Some None i) (λ k. k < n)) (rows_length count m)
+    (there (λ (k : ℕ). eqb (cell (rows_in count m) k 0) a_thread) (length (rows_in count m)) i)
+
+pub queue_there : (p : List ℕ) (count : ℕ) (m : List ℕ) (j : ℕ) →
+    IfSome (at_or (queues_of p (rows_in count m)) Some None j) (λ q. q < count)
+unfolding queues_of
+queue_there p count m j =
+    subst (λ (n : ℕ). IfSome (at_or (queues_of p (rows_in count m)) Some None j) (λ q. q < n)) (rows_length count m)
+    (there (λ (k : ℕ). eqb (cell (rows_in count m) k 0) a_link && is_first p 2 (rows_in count m) k)
+    (length (rows_in count m)) j)
+
+-- what it comes to
+pub at_said : {A : Type 0} (ks : List ℕ) (f : ℕ → A) (d : A) (i : ℕ) {q : ℕ} → Some q ≡ at_or ks Some None i → f q ≡ at_or ks f d i
+at_said ks f d i {q} = go (ltb i (length ks)) (get_or ks i 0)
+  where
+    go : (b : Bool) (k : ℕ) → Some q ≡ cond b (Some k) None → f q ≡ cond b (f k) d
+    go true k e = let g : q ≡ k = cc in ap f g
+    go false k e = cc

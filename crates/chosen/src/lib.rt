@@ -2,17 +2,17 @@
 // queues that `index` built.
 #![tactic(auto)]
 
-ghost use Rattle.std.specs.Prelude.{◌≡◌, ◌*◌, ◌<◌, ◌≤◌, ◌++◌, ◌∷◌, ◌&&◌};
-ghost use Rattle.common.specs.Words.{[], List, ℕ, eqb, length};
-ghost use Rattle.rows.specs.Rows.{row_words, a_link};
-ghost use Rattle.index.specs.Index.{rows_in, Indexed};
-ghost use Rattle.ways.specs.Ways.{cell};
+ghost use Rattle.std.specs.Prelude.{Some, None, ◌≡◌, ◌<◌, ◌++◌, ◌∷◌, ◌&&◌};
+ghost use Rattle.common.specs.Words.{[], List, ℕ, eqb};
+ghost use Rattle.rows.specs.Rows.{a_link};
+ghost use Rattle.index.specs.Index.{cell};
+ghost use Rattle.index.specs.Held.{rows_of};
 ghost use Rattle.verdict.specs.Verdict.{is_first};
-ghost use Rattle.chosen.specs.Chosen.{threads_of, queues_of, chosen};
+ghost use Rattle.plan.specs.Limits.{task_limit};
+ghost use Rattle.chosen.specs.Chosen.{threads_of, queues_of, chosen, at_or};
 
-use index::{QUEUED, number_of};
+use index::{Dictionary, QUEUED, Rows};
 use plan::Plan;
-use ways::cell;
 
 // How many rows were chosen, and the first of them.
 #[derive(Clone, Copy)]
@@ -25,62 +25,72 @@ const THREAD: usize = 5;
 
 const LINK: usize = 6;
 
-const NONE_CHOSEN: Chosen = Chosen {
-    count: 0,
-    rows: [0; Plan::TASKS],
-};
+impl Chosen {
+    const NONE: Chosen = Chosen {
+        count: 0,
+        rows: [0; Plan::TASKS],
+    };
 
-// One row more.
-fn more(before: Chosen, k: usize) -> Chosen
-    requires { before.count < 0x8000_0000 }
-    ensures { (ks : List ℕ) → before ≡ chosen ks → result ≡ chosen (ks ++ (k ∷ [])) }
-{
-    let mut rows = before.rows;
-    let count = before.count;
-    if count < Plan::TASKS {
-        rows[count] = k;
+    // One row more.
+    fn and(self, k: usize) -> Chosen
+        requires { self.count < 0x8000_0000 }
+        ensures { (ks : List ℕ) → self ≡ chosen ks → result ≡ chosen (ks ++ (k ∷ [])) }
+    {
+        let mut rows = self.rows;
+        let count = self.count;
+        if count < Plan::TASKS {
+            rows[count] = k;
+        }
+        Chosen {
+            count: count + 1,
+            rows,
+        }
     }
-    Chosen {
-        count: count + 1,
-        rows,
+
+    // The row at i, where so many were chosen.
+    pub fn row(&self, i: usize) -> Option<usize>
+        requires { i < task_limit }
+        ensures { (ks : List ℕ) → self.now ≡ chosen ks → result ≡ at_or ks Some None i }
+    {
+        if i < self.count {
+            Some(self.rows[i])
+        } else {
+            None
+        }
     }
 }
 
 // The threads, in text order.
-pub fn threads(rows: &[usize], count: usize) -> Chosen
-    requires { (row_words * count ≤ length rows.now) × (count < 0x8000_0000) }
-    ensures { result ≡ chosen (threads_of (rows_in count rows.now)) }
+pub fn threads(rows: &Rows<'_>) -> Chosen
+    requires { rows.now.count < 0x8000_0000 }
+    ensures { result ≡ chosen (threads_of (rows_of rows.now)) }
 {
-    let mut found = NONE_CHOSEN;
-    for k in 0..count {
-        if cell(rows, count, k, 0) == THREAD {
-            found = more(found, k);
+    let mut found = Chosen::NONE;
+    for k in 0..rows.count {
+        if rows.cell(k, 0) == THREAD {
+            found = found.and(k);
         }
     }
     found
 }
 
 // Whether row k is the first connection to its queue.
-fn is_queue(text: &[u8], rows: &[usize], queued: &[u32], count: usize, k: usize) -> bool
-    requires { Indexed text.now 2 rows.now queued.now count × (k < count) }
-    ensures { result ≡ (eqb (cell (rows_in count rows.now) k 0) a_link
-        && is_first text.now 2 (rows_in count rows.now) k) }
+fn is_queue(queued: &Dictionary<'_, QUEUED>, k: usize) -> bool
+    requires { k < queued.now.rows.count }
+    ensures { result ≡ (eqb (cell (rows_of queued.now.rows) k 0) a_link
+        && is_first queued.now.text.now 2 (rows_of queued.now.rows) k) }
 {
-    if cell(rows, count, k, 0) != LINK {
-        return false;
-    }
-    number_of(text, rows, queued, QUEUED, count, k) == k + 1
+    queued.rows.cell(k, 0) == LINK && queued.is_first(k)
 }
 
 // The first connection to each queue.
-pub fn queues(text: &[u8], rows: &[usize], queued: &[u32], count: usize) -> Chosen
-    requires { Indexed text.now 2 rows.now queued.now count }
-    ensures { result ≡ chosen (queues_of text.now (rows_in count rows.now)) }
+pub fn queues(queued: &Dictionary<'_, QUEUED>) -> Chosen
+    ensures { result ≡ chosen (queues_of queued.now.text.now (rows_of queued.now.rows)) }
 {
-    let mut found = NONE_CHOSEN;
-    for k in 0..count {
-        if is_queue(text, rows, queued, count, k) {
-            found = more(found, k);
+    let mut found = Chosen::NONE;
+    for k in 0..queued.rows.count {
+        if is_queue(queued, k) {
+            found = found.and(k);
         }
     }
     found

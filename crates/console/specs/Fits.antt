@@ -1,5 +1,5 @@
 -- No answer of the console is longer than 64 bytes.
-use Rattle.std.specs.Prelude.{◌≤◌, ◌≡◌}
+use Rattle.std.specs.Prelude.{◌≤◌, ◌≡◌, Result, Ok, Err}
 use Rattle.common.specs.Words.{ℕ, arith, Bool, true, false, cond, List, refl, length, length-append}
 use Rattle.plan.specs.Limits.{payload_bytes}
 use Rattle.mailbox.specs.Calls.{start_answer, send_answer, look}
@@ -9,7 +9,7 @@ use Rattle.digits.specs.NumberLaws.{bytes_length}
 use Rattle.frames.specs.Frames.{frame_of, payload_in}
 use Rattle.frames.specs.Writing.{line_length, sizes_length}
 use Rattle.frames.specs.Answers.{longest_answer, sizes_bytes, stored_bytes, message_bytes, gap_bytes, empty_bytes, refusal_bytes, bad_bytes, line_of}
-use Rattle.console.specs.Types.{Plan, Refusal, Answer, State, Started, Sent, Received, Frame, Desk}
+use Rattle.console.specs.Types.{Plan, Refusal, Verdict, State, Stored, Received, Frame, Desk}
 use Rattle.desk.specs.Desk.{Turn, silent, bad, row_turn, planned, start_turn, plan_turn, go_turn, frame_turn, bytes_turn, line_turn, call_turn}
 use Rattle.desk.specs.Desk.{table_turn}
 use Rattle.calls.specs.CallLines.{sent_bytes, filler, received_bytes, unmoved, call_of, line_call, is_call}
@@ -29,10 +29,10 @@ few_refusal : (r : Refusal) → Few (refusal_bytes r)
 unfolding refusal_bytes
 few_refusal r = simp (length-append, bytes_length) (omega arith)
 
-few_sent : (s : Sent) → Few (sent_bytes s)
+few_sent : (s : Result Stored Refusal) → Few (sent_bytes s)
 unfolding stored_bytes
-few_sent (Sent.Stored n s) = simp (length-append, bytes_length) (omega arith)
-few_sent (Sent.Refused r) = few_refusal r
+few_sent (Ok it) = simp (length-append, bytes_length) (omega arith)
+few_sent (Err r) = few_refusal r
 
 few_received : (m : List ℕ) (a : Received) → Few (received_bytes m a)
 unfolding message_bytes gap_bytes empty_bytes
@@ -68,13 +68,13 @@ short_row d m full more =
     short_if d.running (bad d m) (cond full (bad d m) (silent more m)) (short_bad d m)
     (short_if full (bad d m) (silent more m) (short_bad d m) (omega arith))
 
-short_start : (d : Desk) (p : Plan) (m : List ℕ) (s : Started) → start_answer p m ≡ s → Short (start_turn d p m s)
-short_start d p m Started.Ready e = short_line (sizes_bytes p.size p.queues) (few_sizes p.size p.queues (started_queues p m e))
-short_start d p m (Started.Refused r) e = short_line (refusal_bytes r) (few_refusal r)
+short_start : (d : Desk) (p : Plan) (m : List ℕ) (s : Verdict) → start_answer p m ≡ s → Short (start_turn d p m s)
+short_start d p m (Ok it) e = short_line (sizes_bytes p.size p.queues) (few_sizes p.size p.queues (started_queues p m e))
+short_start d p m (Err r) e = short_line (refusal_bytes r) (few_refusal r)
 
-short_plan : (d : Desk) (p : Plan) (m : List ℕ) (a : Answer) → Short (plan_turn d p m a)
-short_plan d p m Answer.Accepted = short_start d p m (start_answer p m) refl
-short_plan d p m (Answer.Refused r) = short_line (refusal_bytes r) (few_refusal r)
+short_plan : (d : Desk) (p : Plan) (m : List ℕ) (a : Verdict) → Short (plan_turn d p m a)
+short_plan d p m (Ok it) = short_start d p m (start_answer p m) refl
+short_plan d p m (Err r) = short_line (refusal_bytes r) (few_refusal r)
 
 short_unmoved : (s : State) (m : List ℕ) → length (unmoved s m).answer ≤ longest_answer
 short_unmoved s m = short_line bad_bytes few_bad

@@ -1,9 +1,9 @@
 -- A line's bytes as the code takes them: a line that is no frame has none, and no bytes are no frame either.
-use Rattle.std.specs.Prelude.{◌≤◌, ◌≡◌, ◌<◌}
+use Rattle.std.specs.Prelude.{◌≤◌, ◌≡◌, ◌<◌, Option, None, Some, unwrap_or}
 use Rattle.common.specs.Words.{ℕ, arith, Bool, true, false, cond, List, [], refl, sym, ◌∙◌, length, take, le-ltb, lt-ltb}
 use Rattle.digits.specs.Hex.{most_bytes, is_line, bytes_in, decoded_of, decoded_into}
 use Rattle.digits.specs.HexLaws.{decoded_holds, decoded_none}
-use Rattle.console.specs.Types.{Decoded, Frame, Desk, Stepped, Reply}
+use Rattle.console.specs.Types.{Frame, Desk}
 use Rattle.frames.specs.Answers.{longest_answer}
 use Rattle.frames.specs.Frames.{frame_of, payload_in}
 use Rattle.desk.specs.Desk.{Turn, bad, with_state, call_turn, frame_turn, bytes_turn, line_turn, Takes}
@@ -38,30 +38,34 @@ line_framed d m line = go (is_line line)
 -- ## A step
 
 pub step_short : (d : Desk) (m line out : List ℕ) → length out < longest_answer →
-    StepGives d m line out (record { desk = d; reply = Reply.NoRoom }) m out
+    StepGives d m line out (record { desk = d; reply = None }) m out
 unfolding step_of
 step_short d m line out h = rw (lt-ltb (length out) longest_answer h) (refl, refl, refl)
 
 -- with room for an answer it takes the turn of the line's bytes
 pub step_taken : (d : Desk) (m line out : List ℕ) → longest_answer ≤ length out →
-    {bytes payload : List ℕ} {f : Frame} {r : Stepped} {memory out' : List ℕ} →
-    bytes ≡ framed_bytes line → f ≡ frame_of bytes → payload ≡ payload_in bytes → Takes (frame_turn d m payload f) out r memory out' →
-    StepGives d m line out (record { desk = r.desk; reply = Reply.Written r.written }) memory out'
+    {bytes payload : List ℕ} {f : Frame} {next : Desk} {n : ℕ} {memory out' : List ℕ} →
+    bytes ≡ framed_bytes line → f ≡ frame_of bytes → payload ≡ payload_in bytes →
+    Takes (frame_turn d m payload f) out next n memory out' →
+    StepGives d m line out (record { desk = next; reply = Some n }) memory out'
 unfolding step_of
 step_taken d m line out room b f p x =
     let y = rw (b, ← line_framed d m line) at (frame_taken d m _ out f p x) in
-    rw (le-ltb (length out) longest_answer room, y.0) (refl, y.1, y.2)
+    rw (le-ltb (length out) longest_answer room, y.0, y.1) (refl, y.2, y.3)
 
 -- ## What decoding finds
 
-module _ (line buffer : List ℕ) (x : Decoded) (bytes : List ℕ) (is : (x ≡ decoded_of line) × (bytes ≡ decoded_into line buffer)) where
-  pub framed_some : most_bytes ≤ length buffer → (n : ℕ) → x ≡ Decoded.Bytes n →
-      (n ≤ most_bytes) × (take n bytes ≡ framed_bytes line) × (bytes ≡ decoded_into line buffer)
-  unfolding framed_bytes
-  framed_some room n e =
-      let h = decoded_holds line buffer n room (sym is.0 ∙ e) in
-      (h.within, rw (is.1, h.is_line_lem) h.bytes_are, is.1)
+module _ (line buffer : List ℕ) (x : Option ℕ) (bytes : List ℕ) (is : (x ≡ decoded_of line) × (bytes ≡ decoded_into line buffer)) where
+  abbrev Found : ℕ → Type 0
+  Found n = (n ≤ most_bytes) × (take n bytes ≡ framed_bytes line) × (bytes ≡ decoded_into line buffer)
 
-  pub framed_none : x ≡ Decoded.Bad → (0 ≤ most_bytes) × (take 0 bytes ≡ framed_bytes line) × (bytes ≡ decoded_into line buffer)
+  -- no bytes where the line is no frame
+  pub framed : most_bytes ≤ length buffer → Found (unwrap_or x 0)
   unfolding framed_bytes
-  framed_none e = (omega arith, rw (decoded_none line (sym is.0 ∙ e)), is.1)
+  framed room = go x refl
+    where
+      go : (y : Option ℕ) → x ≡ y → Found (unwrap_or y 0)
+      go (Some n) e =
+          let h = decoded_holds line buffer n room (sym is.0 ∙ e) in
+          (h.within, rw (is.1, h.is_line_lem) h.bytes_are, is.1)
+      go None e = (omega arith, rw (decoded_none line (sym is.0 ∙ e)), is.1)

@@ -1,15 +1,16 @@
 -- What every turn keeps of a desk: the plan that it runs is sound, so that a call on it need not test rule 7 again.
-use Rattle.std.specs.Prelude.{◌≡◌}
+use Rattle.std.specs.Prelude.{◌≡◌, Ok, Err}
 use Rattle.common.specs.Words.{ℕ, Bool, true, false, cond, List, refl, leb, ltb, length}
 use Rattle.common.specs.Tests.{clash}
 use Rattle.plan.specs.Limits.{task_limit, queue_limit}
+use Rattle.plan.specs.Refusals.{clear}
 use Rattle.plan.specs.Rules.{sound_plan}
 use Rattle.planning.specs.AcceptedPlan.{accepted_made}
 use Rattle.mailbox.specs.Calls.{start_answer}
 use Rattle.digits.specs.Hex.{is_line, bytes_in}
 use Rattle.frames.specs.Answers.{longest_answer}
 use Rattle.frames.specs.Frames.{frame_of, payload_in}
-use Rattle.console.specs.Types.{Plan, Answer, State, Started, Frame, Desk}
+use Rattle.console.specs.Types.{Plan, Verdict, State, Frame, Desk}
 pub use Rattle.desk.specs.Desk.{SoundDesk}
 use Rattle.desk.specs.Desk.{new_desk, square_of, planned, with_task, with_queue, with_run, with_state, Turn, silent, bad, row_turn, start_turn}
 use Rattle.desk.specs.Desk.{plan_turn, go_turn, call_turn, table_turn, frame_turn, bytes_turn, line_turn}
@@ -41,16 +42,16 @@ unfolding row_turn
 keeps_row d m full more k h =
     keeps_if d.running (bad d m) (cond full (bad d m) (silent more m)) k (keeps_if full (bad d m) (silent more m) k h)
 
-keeps_start : (d : Desk) (p : Plan) (m : List ℕ) (s : Started) → sound_plan p ≡ true → Keeps (start_turn d p m s)
-keeps_start d p m Started.Ready h = sound_run d p _ h
-keeps_start d p m (Started.Refused r) h = sound_new
+keeps_start : (d : Desk) (p : Plan) (m : List ℕ) (s : Verdict) → sound_plan p ≡ true → Keeps (start_turn d p m s)
+keeps_start d p m (Ok it) h = sound_run d p _ h
+keeps_start d p m (Err r) h = sound_new
 
-keeps_plan : (d : Desk) (p : Plan) (m : List ℕ) (a : Answer) → (a ≡ Answer.Accepted → sound_plan p ≡ true) → Keeps (plan_turn d p m a)
-keeps_plan d p m Answer.Accepted h = keeps_start d p m (start_answer p m) (h refl)
-keeps_plan d p m (Answer.Refused r) h = sound_new
+keeps_plan : (d : Desk) (p : Plan) (m : List ℕ) (a : Verdict) → (a ≡ clear → sound_plan p ≡ true) → Keeps (plan_turn d p m a)
+keeps_plan d p m (Ok it) h = keeps_start d p m (start_answer p m) (h refl)
+keeps_plan d p m (Err r) h = sound_new
 
 -- an accepted planning makes a sound plan
-planned_sound : (d : Desk) → (planned d).answer ≡ Answer.Accepted → sound_plan (planned d).plan ≡ true
+planned_sound : (d : Desk) → (planned d).answer ≡ clear → sound_plan (planned d).plan ≡ true
 unfolding planned
 planned_sound d e = (accepted_made d.tasks d.queues d.period d.deadline d.priority d.receiver (square_of d.senders) e).sound
 

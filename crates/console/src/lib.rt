@@ -9,23 +9,16 @@ ghost use Rattle.frames.specs.Answers.{longest_answer};
 ghost use Rattle.desk.specs.Desk.{frame_turn, framed_bytes, Takes};
 ghost use Rattle.console.specs.Step.{StepGives};
 
-use desk::{Desk, Stepped};
-use digits::hex::{BYTES, Decoded};
+use desk::Desk;
+use digits::hex::BYTES;
 use frames::frame::Frame;
-use mailbox::State;
 
-// How many bytes of the buffer were written, none where a line has no answer; or that the buffer was shorter than the longest answer.
-#[derive(Drop)]
-pub enum Reply {
-    Written(usize),
-    NoRoom,
-}
-
-// What a step comes to. Where there was no room the line was not taken, and the desk is the one that was handed in.
+// What a step comes to: how many bytes of the buffer were written, 0 where a line has no answer; none where the buffer was shorter than the
+// longest answer. Then the line was not taken, and the desk is the one that was handed in.
 #[derive(Drop)]
 pub struct Replied {
     pub desk: Desk,
-    pub reply: Reply,
+    pub reply: Option<usize>,
 }
 
 // No answer is longer.
@@ -37,82 +30,51 @@ pub fn bytes_in(line: &[u8], bytes: &mut [u8]) -> usize
     ensures { (result ≤ most_bytes) × (take result bytes.new ≡ framed_bytes line.now)
         × (bytes.new ≡ decoded_into line.now bytes.old) }
 {
-    let decoded = digits::hex::decode(line, bytes);
-    if let Decoded::Bytes(n) = decoded {
-        return n;
-    }
-    0
+    digits::hex::decode(line, bytes).unwrap_or(0)
 }
 
-// A frame on a desk of any values: its plan is tested first (rule 7).
-fn act(desk: Desk, memory: &mut [u8], frame: Frame, payload: &[u8], out: &mut [u8]) -> Stepped
+// A frame on a desk of any values: its plan is tested first (rule 7). Answers how many bytes were written.
+fn act(desk: &mut Desk, memory: &mut [u8], frame: Frame, payload: &[u8], out: &mut [u8]) -> usize
     requires { longest_answer ≤ length out.old }
-    ensures { Takes (frame_turn desk memory.old payload.now frame) out.old result
-        memory.new out.new }
+    ensures { Takes (frame_turn desk.old memory.old payload.now frame) out.old desk.new result memory.new out.new }
 {
     if !calls::is_call(frame) {
         return desk::set_table(desk, memory, frame, out);
     }
-    let plan = desk.plan;
-    let state = desk.state;
-    let sound = soundness::sound(plan);
-    let mut sent = state.sent;
-    let mut reading = state.reading;
+    let sound = soundness::sound(&desk.plan);
+    let runs = desk.running;
     let done = calls::call_line(
-        desk.running,
+        runs,
         sound,
-        &plan.sends,
-        &plan.period,
-        &plan.deadline,
-        &plan.priority,
-        &plan.receiver,
-        &plan.size,
-        &plan.place,
-        plan.tasks,
-        plan.queues,
+        &desk.plan,
+        &mut desk.state,
         memory,
-        state.tick,
-        &mut sent,
-        &mut reading,
         frame,
         payload,
         out,
-        window::nothing(),
+        None,
     );
-    let tick = done.tick;
-    let next = State {
-        tick,
-        sent,
-        reading,
-    };
-    Stepped {
-        desk: desk::with_state(desk, next),
-        written: done.written,
-    }
+    done.written
 }
 
-pub fn step(desk: Desk, memory: &mut [u8], line: &[u8], out: &mut [u8]) -> Replied
+pub fn step(mut desk: Desk, memory: &mut [u8], line: &[u8], out: &mut [u8]) -> Replied
     ensures { StepGives desk memory.old line.now out.old result memory.new out.new }
 {
     if out.len() < ROOM {
-        return Replied {
-            desk,
-            reply: Reply::NoRoom,
-        };
+        return Replied { desk, reply: None };
     }
     let mut bytes = [0; BYTES];
     let n = bytes_in(line, &mut bytes);
-    let frame = frames::frame::frame_of(&bytes[..n]);
-    let done = act(
-        desk,
+    let framed = &bytes[..n];
+    let written = act(
+        &mut desk,
         memory,
-        frame,
-        frames::frame::payload_in(&bytes[..n]),
+        frames::frame::frame_of(framed),
+        frames::frame::payload_in(framed),
         out,
     );
-    let next = done.desk;
     Replied {
-        desk: next,
-        reply: Reply::Written(done.written),
+        desk,
+        reply: Some(written),
     }
 }

@@ -1,5 +1,5 @@
 -- The pages of this crate's definitions and laws.
-pub mod Columns
+pub mod Lent
 pub mod Bounds
 pub mod Until
 pub mod Passed

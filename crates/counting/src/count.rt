@@ -1,29 +1,22 @@
 // Equation 1: the messages of a queue with deadlines up to a tick, and up to each of two ticks at once.
-ghost use Rattle.std.specs.Prelude.{◌≡◌, ◌+◌, ◌-◌, ◌*◌, ◌^◌, ◌<◌, ◌≤◌};
-ghost use Rattle.common.specs.Words.{min};
+ghost use Rattle.std.specs.Prelude.{◌≡◌, ◌+◌, ◌*◌, ◌^◌, ◌<◌, ◌≤◌};
 ghost use Rattle.model.specs.Model.{count, up_to};
 ghost use Rattle.plan.specs.Limits.{last_tick};
-ghost use Rattle.counting.specs.Columns.{columns_at, Lent};
+ghost use Rattle.plan.specs.Plan.{queue_at};
+ghost use Rattle.counting.specs.Lent.{Lent};
 
 use calendar::Tick;
 use plan::Plan;
 
-pub fn up_to<'a>(
-    sends: &'a [bool; Plan::CELLS],
-    period: &'a [u64; Plan::TASKS],
-    deadline: &'a [u64; Plan::TASKS],
-    tasks: usize,
-    queue: usize,
-    at: Tick,
-) -> u64
-    requires { Lent sends.now period.now deadline.now tasks queue × (at.0 ≤ last_tick) }
-    ensures { result ≡ up_to (columns_at sends.now period.now deadline.now tasks queue) at.0 }
+pub fn up_to(plan: &Plan, queue: usize, at: Tick) -> u64
+    requires { Lent plan.now queue × (at.0 ≤ last_tick) }
+    ensures { result ≡ up_to (queue_at plan.now queue) at.0 }
 {
     let base = queue * Plan::TASKS;
     let mut sum: u64 = 0;
-    for i in 0..tasks {
-        if sends[base + i] {
-            sum += calendar::count(period[i], deadline[i], at);
+    for i in 0..plan.tasks {
+        if plan.sends[base + i] {
+            sum += calendar::count(plan.period[i], plan.deadline[i], at);
         }
     }
     sum
@@ -53,29 +46,16 @@ fn passed_at(period: u64, deadline: u64, at: Tick) -> Passed
     }
 }
 
-// How far a number lies beyond another; 0 where it does not.
-fn beyond(number: u64, other: u64) -> u64
-    ensures { result ≡ number - other }
-{
-    if number < other { 0 } else { number - other }
-}
-
-fn at_most_one(number: u64) -> u64
-    ensures { result ≡ min number 1 }
-{
-    if number == 0 { 0 } else { 1 }
-}
-
 // The deadlines in so many ticks, of which the first comes after `next` of them. Most often there are two at most, and nothing is divided.
 // Whether a task has one is as good as chance, so there is no branch on it, which would be guessed wrong.
 fn deadlines_in(period: u64, next: u64, ticks: u64) -> u64
     requires { (1 ≤ period) × (1 ≤ next) × (ticks + 1 < 2 ^ 64) }
     ensures { result ≡ count period next ticks }
 {
-    let first = beyond(ticks + 1, next);
-    let second = beyond(first, period);
+    let first = (ticks + 1).saturating_sub(next);
+    let second = first.saturating_sub(period);
     if second <= period {
-        at_most_one(first) + at_most_one(second)
+        first.min(1) + second.min(1)
     } else {
         (ticks - next) / period + 1
     }
@@ -102,31 +82,18 @@ fn counts_of(period: u64, deadline: u64, low: Tick, high: Tick) -> Counts
 }
 
 // A queue's, in one pass over its senders.
-pub fn up_to_both<'a>(
-    sends: &'a [bool; Plan::CELLS],
-    period: &'a [u64; Plan::TASKS],
-    deadline: &'a [u64; Plan::TASKS],
-    tasks: usize,
-    queue: usize,
-    low: Tick,
-    high: Tick,
-) -> Counts
-    requires { Lent sends.now period.now deadline.now tasks queue × (low.0 ≤ high.0) × (high.0 ≤ last_tick) }
-    ensures { (result.low ≡ up_to (columns_at sends.now period.now deadline.now tasks queue) low.0)
-        × (result.high ≡ up_to (columns_at sends.now period.now deadline.now tasks queue) high.0) }
+pub fn up_to_both(plan: &Plan, queue: usize, low: Tick, high: Tick) -> Counts
+    requires { Lent plan.now queue × (low.0 ≤ high.0) × (high.0 ≤ last_tick) }
+    ensures { (result.low ≡ up_to (queue_at plan.now queue) low.0) × (result.high ≡ up_to (queue_at plan.now queue) high.0) }
 {
     let base = queue * Plan::TASKS;
-    let mut earlier: u64 = 0;
-    let mut later: u64 = 0;
-    for i in 0..tasks {
-        if sends[base + i] {
-            let counts = counts_of(period[i], deadline[i], low, high);
-            earlier += counts.low;
-            later += counts.high;
+    let mut both = Counts { low: 0, high: 0 };
+    for i in 0..plan.tasks {
+        if plan.sends[base + i] {
+            let counts = counts_of(plan.period[i], plan.deadline[i], low, high);
+            both.low += counts.low;
+            both.high += counts.high;
         }
     }
-    Counts {
-        low: earlier,
-        high: later,
-    }
+    both
 }

@@ -1,4 +1,5 @@
 -- AADL.md, section 2: thread types, thread implementations and process implementations.
+use Rattle.words.specs.declared.kinds.Kind.{Kind}
 use Rattle.common.specs.Words.{ℕ, List}
 use Rattle.words.specs.Kinds.{THREAD, PROCESS, IMPLEMENTATION, EXTENDS, END, DOT, SEMICOLON}
 use Rattle.tokens.specs.Tokens.{Token}
@@ -37,20 +38,20 @@ thread_type ps ts =
     ⨟ put (λ qs. type_row (type_name (Step.On ts)).start (parent_in (Step.On ts)) qs)
 
 -- an implementation's first NAME and its second
-abbrev pub first_name : ℕ → Step → Token
+abbrev pub first_name : Kind → Step → Token
 first_name word s = first (s ⟫ the word ⟫ the IMPLEMENTATION)
 
-abbrev pub second_name : ℕ → Step → Token
+abbrev pub second_name : Kind → Step → Token
 second_name word s = first (s ⟫ the word ⟫ the IMPLEMENTATION ⟫ name ⟫ the DOT)
 
-unfoldable pub implementation_head : ℕ → List Token → Step
+unfoldable pub implementation_head : Kind → List Token → Step
 implementation_head word ts = the word ts ⟫ the IMPLEMENTATION ⟫ name ⟫ the DOT ⟫ name
 
 unfoldable pub implementation_end : Token → Token → List Token → Step
 implementation_end t n ts = the END ts ⟫ own t ⟫ the DOT ⟫ own n ⟫ the SEMICOLON
 
 -- its word, "implementation" NAME "." NAME { section } "end" NAME "." NAME ";"
-unfoldable pub implementation : ℕ → ℕ → ℕ → Rule
+unfoldable pub implementation : Kind → ℕ → ℕ → Rule
 implementation word of place ps ts =
     quiet (implementation_head word) ps ts ⨟ sections of place
     ⨟ quiet (implementation_end (first_name word (Step.On ts)) (second_name word (Step.On ts)))

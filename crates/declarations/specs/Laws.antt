@@ -1,6 +1,8 @@
 -- Laws of declarations: what the code does one after another is what the rules say, and how far they go.
+use Rattle.words.specs.Same.{same_kind}
+use Rattle.words.specs.declared.kinds.Kind.{Kind}
 use Rattle.std.specs.Prelude.{◌≡◌}
-use Rattle.common.specs.Words.{ℕ, arith, true, List, refl, ap, ◌∙◌}
+use Rattle.common.specs.Words.{ℕ, true, false, List, refl, ap, ◌∙◌}
 use Rattle.words.specs.Kinds.{ENDED, THREAD, PROCESS, IMPLEMENTATION, EXTENDS, END, DOT, SEMICOLON}
 use Rattle.tokens.specs.Tokens.{Token}
 use Rattle.steps.specs.Steps.{Step, On, Stop, ◌⟫◌, head, is, the, name, own}
@@ -20,15 +22,15 @@ use Rattle.declarations.specs.Declarations.{implementation_head, implementation_
 
 -- ## In a row
 
-pub extends_on : (s : Step) → first_kind s ≡ EXTENDS → s ⟫ the EXTENDS ⟫ classifier ≡ s ⟫ maybe_extends
+pub extends_on : (s : Step) → same_kind (first_kind s) EXTENDS ≡ true → s ⟫ the EXTENDS ⟫ classifier ≡ s ⟫ maybe_extends
 unfolding maybe_extends
-extends_on s e = then_extension s ∙ optional_on (is EXTENDS) extension s (is_on EXTENDS s (λ x. omega arith) e)
+extends_on s e = then_extension s ∙ optional_on (is EXTENDS) extension s (is_on EXTENDS s refl e)
   where
     then_extension : (s : Step) → s ⟫ the EXTENDS ⟫ classifier ≡ s ⟫ extension
     then_extension (On ts) = refl
     then_extension (Stop f) = refl
 
-pub extends_off : (s : Step) → (first_kind s ≡ EXTENDS → ⊥) → s ≡ s ⟫ maybe_extends
+pub extends_off : (s : Step) → same_kind (first_kind s) EXTENDS ≡ false → s ≡ s ⟫ maybe_extends
 unfolding maybe_extends
 extends_off s n = optional_off (is EXTENDS) extension s (is_off EXTENDS s n)
 
@@ -42,7 +44,7 @@ unfolding type_end
 type_end_then k (On ts) = refl
 type_end_then k (Stop f) = refl
 
-pub implementation_head_then : (word : ℕ) (s : Step) →
+pub implementation_head_then : (word : Kind) (s : Step) →
     s ⟫ the word ⟫ the IMPLEMENTATION ⟫ name ⟫ the DOT ⟫ name ≡ s ⟫ implementation_head word
 unfolding implementation_head
 implementation_head_then word (On ts) = refl
@@ -92,7 +94,7 @@ module _ (s : State) where
       (put (λ qs. type_row n e qs))
       (λ ts. put (λ qs. type_row (type_name (On ts)).start (parent_in (On ts)) qs)) (λ ts w. rw (x, y, w))
 
-  pub implementation_does : (word of place : ℕ) (k l : Token) →
+  pub implementation_does : (word : Kind) (of place : ℕ) (k l : Token) →
       (going (s.went ⟫ the word ⟫ the IMPLEMENTATION) ≡ true → k ≡ first_name word s.went) →
       (going (s.went ⟫ the word ⟫ the IMPLEMENTATION ⟫ name ⟫ the DOT) ≡ true → l ≡ second_name word s.went) →
       does (does (does s (quiet (implementation_head word))) (sections of place)) (quiet (implementation_end k l))
@@ -131,12 +133,12 @@ module _ (s : State) where
 pub type_head_moves : Moves 7 type_head
 unfolding type_head maybe_extends
 type_head_moves ts =
-    moved_then (moved_then (moves_the THREAD (λ e. omega arith) ts) moves_name)
-    (moves_optional (is EXTENDS) (λ us. moved_then (moves_the EXTENDS (λ e. omega arith) us) classifier_moves))
+    moved_then (moved_then (moves_the THREAD refl ts) moves_name)
+    (moves_optional (is EXTENDS) (λ us. moved_then (moves_the EXTENDS refl us) classifier_moves))
 
 pub type_end_moves : (k : Token) → Moves 3 (type_end k)
 unfolding type_end
-type_end_moves k ts = moved_then (moved_then (moves_the END (λ e. omega arith) ts) (moves_own k)) (moves_the SEMICOLON (λ e. omega arith))
+type_end_moves k ts = moved_then (moved_then (moves_the END refl ts) (moves_own k)) (moves_the SEMICOLON refl)
 
 pub thread_type_moves : MovesOn 10 thread_type
 unfolding thread_type
@@ -147,21 +149,21 @@ thread_type_moves ps ts =
     (moves_quiet (type_end (type_name (On ts))) (type_end_moves (type_name (On ts)))))
     (moves_put (λ qs. type_row (type_name (On ts)).start (parent_in (On ts)) qs))
 
-pub implementation_head_moves : (word : ℕ) → (word ≡ ENDED → ⊥) → Moves 5 (implementation_head word)
+pub implementation_head_moves : (word : Kind) → same_kind word ENDED ≡ false → Moves 5 (implementation_head word)
 unfolding implementation_head
 implementation_head_moves word n ts =
     moved_then (moved_then (moved_then (moved_then (moved_less 1 (weighs word n) (moves_the word n ts))
-    (moves_the IMPLEMENTATION (λ e. omega arith))) moves_name)
-    (moves_the DOT (λ e. omega arith))) moves_name
+    (moves_the IMPLEMENTATION refl)) moves_name)
+    (moves_the DOT refl)) moves_name
 
 pub implementation_end_moves : (k l : Token) → Moves 5 (implementation_end k l)
 unfolding implementation_end
 implementation_end_moves k l ts =
-    moved_then (moved_then (moved_then (moved_then (moves_the END (λ e. omega arith) ts) (moves_own k))
-    (moves_the DOT (λ e. omega arith))) (moves_own l))
-    (moves_the SEMICOLON (λ e. omega arith))
+    moved_then (moved_then (moved_then (moved_then (moves_the END refl ts) (moves_own k))
+    (moves_the DOT refl)) (moves_own l))
+    (moves_the SEMICOLON refl)
 
-pub implementation_moves : (word of place : ℕ) → (word ≡ ENDED → ⊥) → MovesOn 10 (implementation word of place)
+pub implementation_moves : (word : Kind) (of place : ℕ) → same_kind word ENDED ≡ false → MovesOn 10 (implementation word of place)
 unfolding implementation
 implementation_moves word of place n ps ts =
     moved_onward _ (quiet (implementation_end (first_name word (On ts)) (second_name word (On ts))))
@@ -173,11 +175,11 @@ pub thread_implementation_moves : MovesOn 10 thread_implementation
 unfolding thread_implementation
 thread_implementation_moves ps ts =
     moved_onward _ (put (λ qs. implementation_row (first_name THREAD (On ts)).start (second_name THREAD (On ts)).start qs))
-    (implementation_moves THREAD an_implementation 0 (λ e. omega arith) ps ts)
+    (implementation_moves THREAD an_implementation 0 refl ps ts)
     (moves_put (λ qs. implementation_row (first_name THREAD (On ts)).start (second_name THREAD (On ts)).start qs))
 
 pub process_moves : MovesOn 10 process_implementation
 unfolding process_implementation
 process_moves ps ts =
-    moved_onward _ (put (λ qs. process_row (head ts).start)) (implementation_moves PROCESS a_process (head ts).start (λ e. omega arith) ps ts)
+    moved_onward _ (put (λ qs. process_row (head ts).start)) (implementation_moves PROCESS a_process (head ts).start refl ps ts)
     (moves_put (λ qs. process_row (head ts).start))

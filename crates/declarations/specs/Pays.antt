@@ -1,6 +1,8 @@
 -- Declarations are paid for by their text, with what stands in their sections.
+use Rattle.words.specs.Same.{same_kind}
+use Rattle.words.specs.declared.kinds.Kind.{Kind}
 use Rattle.std.specs.Prelude.{◌≡◌}
-use Rattle.common.specs.Words.{ℕ, arith, eqb}
+use Rattle.common.specs.Words.{ℕ, false, refl, arith, eqb}
 use Rattle.words.specs.Kinds.{ENDED, THREAD, PROCESS, FEATURES, SUBCOMPONENTS, PROPERTIES}
 use Rattle.tokens.specs.Laws.{cases}
 use Rattle.steps.specs.Steps.{On, head, next, is, any, the}
@@ -22,18 +24,18 @@ use Rattle.declarations.specs.Laws.{type_head_moves, type_end_moves, implementat
 
 -- ## Sections
 
-listed_pays : (word place : ℕ) → Pays 0 0 (listed word place)
+listed_pays : (word : Kind) (place : ℕ) → Pays 0 0 (listed word place)
 unfolding listed
 listed_pays word place ps ts =
-    cases (PaidBy 0 0 ts) (eqb word FEATURES) (λ _. features_pay place ps ts)
-    (λ _. cases (PaidBy 0 0 ts) (eqb word SUBCOMPONENTS) (λ _. subcomponents_pay place ps ts) (λ _. connections_pay place ps ts))
+    cases (PaidBy 0 0 ts) (same_kind word FEATURES) (λ _. features_pay place ps ts)
+    (λ _. cases (PaidBy 0 0 ts) (same_kind word SUBCOMPONENTS) (λ _. subcomponents_pay place ps ts) (λ _. connections_pay place ps ts))
 
 -- whatever token it is
-the_stays : (kind : ℕ) → Moves 0 (the kind)
+the_stays : (kind : Kind) → Moves 0 (the kind)
 unfolding the
 the_stays kind ts = moved_either (is kind ts) (moves_any ts) stopped
 
-list_pays : (word place : ℕ) → Pays 0 0 (list_in word place)
+list_pays : (word : Kind) (place : ℕ) → Pays 0 0 (list_in word place)
 unfolding list_in
 list_pays word place ps ts = paid_onward _ (none_or (listed word place)) (paid_moved (the_stays word ts))
     (none_or_pays (listed word place) (listed_pays word place))
@@ -70,7 +72,7 @@ thread_type_pays ps ts =
     (pays_quiet (type_end (type_name (On ts))) (type_end_moves (type_name (On ts)))))
     (pays_put (λ qs. type_row (type_name (On ts)).start (parent_in (On ts)) qs))
 
-implementation_pays : (word of place : ℕ) → (word ≡ ENDED → ⊥) → Pays 0 10 (implementation word of place)
+implementation_pays : (word : Kind) (of place : ℕ) → same_kind word ENDED ≡ false → Pays 0 10 (implementation word of place)
 unfolding implementation
 implementation_pays word of place n ps ts =
     paid_onward _ (quiet (implementation_end (first_name word (On ts)) (second_name word (On ts))))
@@ -82,11 +84,11 @@ pub thread_implementation_pays : Pays 0 1 thread_implementation
 unfolding thread_implementation
 thread_implementation_pays ps ts =
     paid_onward _ (put (λ qs. implementation_row (first_name THREAD (On ts)).start (second_name THREAD (On ts)).start qs))
-    (implementation_pays THREAD an_implementation 0 (λ e. omega arith) ps ts)
+    (implementation_pays THREAD an_implementation 0 refl ps ts)
     (pays_put (λ qs. implementation_row (first_name THREAD (On ts)).start (second_name THREAD (On ts)).start qs))
 
 pub process_pays : Pays 0 1 process_implementation
 unfolding process_implementation
 process_pays ps ts =
-    paid_onward _ (put (λ qs. process_row (head ts).start)) (implementation_pays PROCESS a_process (head ts).start (λ e. omega arith) ps ts)
+    paid_onward _ (put (λ qs. process_row (head ts).start)) (implementation_pays PROCESS a_process (head ts).start refl ps ts)
     (pays_put (λ qs. process_row (head ts).start))

@@ -1,4 +1,6 @@
 -- Laws of sections: which one begins, what the code does in it, and how far it goes.
+use Rattle.words.specs.declared.kinds.Kind.{Kind}
+use Rattle.words.specs.Same.{same_kind, kind_differs}
 use Rattle.std.specs.Prelude.{◌≡◌}
 use Rattle.common.specs.Words.{ℕ, Bool, true, false, true≢false, cond, refl, sym, ap, ◌∙◌, eqb, eq-eqb, ne_eqb}
 use Rattle.words.specs.Kinds.{ENDED, FEATURES, SUBCOMPONENTS, PROPERTIES}
@@ -54,26 +56,27 @@ module _ (f g : Rule) (s : State) where
   by_false true h = absurd (true≢false h)
   by_false false h = refl
 
-module _ (word place : ℕ) (s : State) where
+module _ (word : Kind) (place : ℕ) (s : State) where
   abbrev inner : Rule
-  inner ps ts = cond (eqb word SUBCOMPONENTS) (subcomponents place ps ts) (connections place ps ts)
+  inner ps ts = cond (same_kind word SUBCOMPONENTS) (subcomponents place ps ts) (connections place ps ts)
 
-  pub listed_features : word ≡ FEATURES → does s (features place) ≡ does s (listed word place)
+  pub listed_features : same_kind word FEATURES ≡ true → does s (features place) ≡ does s (listed word place)
   unfolding listed
-  listed_features e = by_true (features place) inner s (eqb word FEATURES) (eq-eqb word FEATURES e)
+  listed_features e = by_true (features place) inner s (same_kind word FEATURES) e
 
-  pub listed_subcomponents : (word ≡ FEATURES → ⊥) → word ≡ SUBCOMPONENTS → does s (subcomponents place) ≡ does s (listed word place)
+  pub listed_subcomponents : same_kind word FEATURES ≡ false → same_kind word SUBCOMPONENTS ≡ true →
+      does s (subcomponents place) ≡ does s (listed word place)
   unfolding listed
   listed_subcomponents n e =
-      by_true (subcomponents place) (connections place) s (eqb word SUBCOMPONENTS) (eq-eqb word SUBCOMPONENTS e)
-      ∙ by_false (features place) inner s (eqb word FEATURES) (ne_eqb word FEATURES n)
+      by_true (subcomponents place) (connections place) s (same_kind word SUBCOMPONENTS) e
+      ∙ by_false (features place) inner s (same_kind word FEATURES) n
 
-  pub listed_connections : (word ≡ FEATURES → ⊥) → (word ≡ SUBCOMPONENTS → ⊥) →
+  pub listed_connections : same_kind word FEATURES ≡ false → same_kind word SUBCOMPONENTS ≡ false →
       does s (connections place) ≡ does s (listed word place)
   unfolding listed
   listed_connections n m =
-      by_false (subcomponents place) (connections place) s (eqb word SUBCOMPONENTS) (ne_eqb word SUBCOMPONENTS m)
-      ∙ by_false (features place) inner s (eqb word FEATURES) (ne_eqb word FEATURES n)
+      by_false (subcomponents place) (connections place) s (same_kind word SUBCOMPONENTS) m
+      ∙ by_false (features place) inner s (same_kind word FEATURES) n
 
   pub list_does : does (does s (quiet (the word))) (none_or (listed word place)) ≡ does s (list_in word place)
   unfolding list_in
@@ -96,32 +99,32 @@ module _ (of place : ℕ) (s : State) where
       does s (list_in (first_kind s.went) place) ≡ does s (section of place))
       (λ ts qs x t h. rw h) (λ f qs x t h. refl) s
 
-  pub section_properties : list_kind of (first_kind s.went) ≡ false → first_kind s.went ≡ PROPERTIES →
+  pub section_properties : list_kind of (first_kind s.went) ≡ false → same_kind (first_kind s.went) PROPERTIES ≡ true →
       does s (properties_of of) ≡ does s (section of place)
   unfolding does section
   section_properties =
       by_went (λ (s : State). list_kind of (first_kind s.went) ≡ false →
-      first_kind s.went ≡ PROPERTIES → does s (properties_of of) ≡ does s (section of place))
-      (λ ts qs x t h e. rw (h, eq-eqb (next ts) PROPERTIES e)) (λ f qs x t h e. refl) s
+      same_kind (first_kind s.went) PROPERTIES ≡ true → does s (properties_of of) ≡ does s (section of place))
+      (λ ts qs x t h e. rw (h, e)) (λ f qs x t h e. refl) s
 
-  pub section_skipped : list_kind of (first_kind s.went) ≡ false → (first_kind s.went ≡ PROPERTIES → ⊥) →
+  pub section_skipped : list_kind of (first_kind s.went) ≡ false → same_kind (first_kind s.went) PROPERTIES ≡ false →
       does s (quiet skipped) ≡ does s (section of place)
   unfolding does section
   section_skipped =
       by_went (λ (s : State). list_kind of (first_kind s.went) ≡ false →
-      (first_kind s.went ≡ PROPERTIES → ⊥) → does s (quiet skipped) ≡ does s (section of place))
-      (λ ts qs x t h n. rw (h, ne_eqb (next ts) PROPERTIES n)) (λ f qs x t h n. refl) s
+      same_kind (first_kind s.went) PROPERTIES ≡ false → does s (quiet skipped) ≡ does s (section of place))
+      (λ ts qs x t h n. rw (h, n)) (λ f qs x t h n. refl) s
 
 -- ## How far it goes
 
-listed_moves : (word place : ℕ) → MovesOn 0 (listed word place)
+listed_moves : (word : Kind) (place : ℕ) → MovesOn 0 (listed word place)
 unfolding listed
 listed_moves word place ps ts =
-    cases (λ (s : Said). Moved 0 ts s.went) (eqb word FEATURES) (λ _. features_moves place ps ts)
-    (λ _. cases (λ (s : Said). Moved 0 ts s.went) (eqb word SUBCOMPONENTS)
+    cases (λ (s : Said). Moved 0 ts s.went) (same_kind word FEATURES) (λ _. features_moves place ps ts)
+    (λ _. cases (λ (s : Said). Moved 0 ts s.went) (same_kind word SUBCOMPONENTS)
     (λ _. subcomponents_moves place ps ts) (λ _. connections_moves place ps ts))
 
-list_moves : (word place : ℕ) → (word ≡ ENDED → ⊥) → MovesOn 1 (list_in word place)
+list_moves : (word : Kind) (place : ℕ) → same_kind word ENDED ≡ false → MovesOn 1 (list_in word place)
 unfolding list_in
 list_moves word place n ps ts =
     moved_onward _ (none_or (listed word place)) (moved_less 1 (weighs word n) (moves_the word n ts))
@@ -136,7 +139,8 @@ properties_moves of ps ts =
 pub section_advances : (of place : ℕ) → AdvancesOn (begins of) (section of place)
 unfolding section
 section_advances of place ps ts h =
-    let real : next ts ≡ ENDED → ⊥ = λ e. true≢false (sym h ∙ ap (allowed of) e ∙ allowed_ended of) in
+    let real : same_kind (next ts) ENDED ≡ false =
+    kind_differs (next ts) ENDED (λ e. true≢false (sym h ∙ ap (allowed of) e ∙ allowed_ended of)) in
     cases (λ (s : Said). Moved 1 ts s.went) (list_kind of (next ts)) (λ _. list_moves (next ts) place real ps ts)
     (λ _. cases (λ (s : Said). Moved 1 ts s.went) (is PROPERTIES ts) (λ _. properties_moves of ps ts) (λ _. skipped_moves ts real))
 

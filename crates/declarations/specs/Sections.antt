@@ -1,34 +1,43 @@
 -- AADL.md, sections 2 and 3: the sections of a thread type, a thread implementation and a process implementation.
+use Rattle.words.specs.Same.{same_kind}
+use Rattle.words.specs.declared.kinds.Kind.{Kind}
 use Rattle.common.specs.Words.{ℕ, Bool, true, false, not, cond, List, eqb}
 use Rattle.words.specs.Kinds.{FEATURES, SUBCOMPONENTS, CONNECTIONS, PROPERTIES, MODES}
 use Rattle.tokens.specs.Tokens.{Token}
 use Rattle.steps.specs.Steps.{next, is, the}
 use Rattle.phrases.specs.Phrases.{section_kind, skipped}
-use Rattle.rows.specs.Rows.{a_process, a_type}
+use Rattle.rows.specs.Rows.{a_process, a_type, an_implementation}
 use Rattle.rows.specs.Said.{Rule, quiet, ◌⨟◌, repeat, adding}
 use Rattle.properties.specs.Properties.{of_thread, of_process, none_or, properties_in}
 use Rattle.features.specs.Features.{features}
 use Rattle.threads.specs.Threads.{subcomponents}
 use Rattle.links.specs.Links.{connections}
+use Rattle.declarations.specs.declared.Sort.{Sort}
+
+-- what a row of it begins with
+abbrev pub begun_by : Sort → ℕ
+begun_by Sort.Process = a_process
+begun_by Sort.Type = a_type
+begun_by Sort.Implementation = an_implementation
 
 -- ""features" .. in a thread_type", ""subcomponents" .. in a process_impl", ""connections" .. in a process_impl"
-unfoldable pub list_kind : ℕ → ℕ → Bool
+unfoldable pub list_kind : ℕ → Kind → Bool
 list_kind of k =
-    cond (eqb of a_type) (eqb k FEATURES) (cond (eqb of a_process) (cond (eqb k SUBCOMPONENTS) true (eqb k CONNECTIONS)) false)
+    cond (eqb of a_type) (same_kind k FEATURES) (cond (eqb of a_process) (cond (same_kind k SUBCOMPONENTS) true (same_kind k CONNECTIONS)) false)
 
 -- "Any other section word there fits no rule ("features" in an implementation, "modes" in a process_impl)"
-unfoldable pub allowed : ℕ → ℕ → Bool
-allowed of k = cond (eqb k FEATURES) (eqb of a_type) (cond (eqb k MODES) (not (eqb of a_process)) (section_kind k))
+unfoldable pub allowed : ℕ → Kind → Bool
+allowed of k = cond (same_kind k FEATURES) (eqb of a_type) (cond (same_kind k MODES) (not (eqb of a_process)) (section_kind k))
 
 -- { feature } of the type, { subcomponent } and { connection } of the process, whose name or begin stands at a place
-unfoldable pub listed : ℕ → ℕ → Rule
+unfoldable pub listed : Kind → ℕ → Rule
 listed word place ps ts =
     let of_process = subcomponents place ps ts in
     let between = connections place ps ts in
-    cond (eqb word FEATURES) (features place ps ts) (cond (eqb word SUBCOMPONENTS) of_process between)
+    cond (same_kind word FEATURES) (features place ps ts) (cond (same_kind word SUBCOMPONENTS) of_process between)
 
 -- its word, then ( "none" ";" | { .. } )
-unfoldable pub list_in : ℕ → ℕ → Rule
+unfoldable pub list_in : Kind → ℕ → Rule
 list_in word place ps ts = quiet (the word) ps ts ⨟ none_or (listed word place)
 
 -- "properties" associations. "Where a declaration has several properties sections, the first that has the property counts"

@@ -1,4 +1,6 @@
 -- The rows of declarations have all their columns, and no Priority over 255.
+use Rattle.words.specs.Same.{same_kind}
+use Rattle.words.specs.declared.kinds.Kind.{Kind}
 use Rattle.common.specs.Words.{ℕ, arith, refl, eqb}
 use Rattle.words.specs.Kinds.{THREAD, PROCESS, FEATURES, SUBCOMPONENTS, PROPERTIES}
 use Rattle.tokens.specs.Laws.{cases}
@@ -15,13 +17,13 @@ use Rattle.declarations.specs.Sections.{list_kind, listed, list_in, properties_o
 use Rattle.declarations.specs.Declarations.{type_name, parent_in, type_head, type_end, thread_type, first_name, second_name, implementation_head}
 use Rattle.declarations.specs.Declarations.{implementation_end, implementation, thread_implementation, process_implementation}
 
-listed_wide : (word place : ℕ) → WideOn (listed word place)
+listed_wide : (word : Kind) (place : ℕ) → WideOn (listed word place)
 unfolding listed
 listed_wide word place ps ts =
-    cases (Wide ps) (eqb word FEATURES) (λ _. features_wide place ps ts)
-    (λ _. cases (Wide ps) (eqb word SUBCOMPONENTS) (λ _. subcomponents_wide place ps ts) (λ _. connections_wide place ps ts))
+    cases (Wide ps) (same_kind word FEATURES) (λ _. features_wide place ps ts)
+    (λ _. cases (Wide ps) (same_kind word SUBCOMPONENTS) (λ _. subcomponents_wide place ps ts) (λ _. connections_wide place ps ts))
 
-list_wide : (word place : ℕ) → WideOn (list_in word place)
+list_wide : (word : Kind) (place : ℕ) → WideOn (list_in word place)
 unfolding list_in
 list_wide word place ps ts =
     wide_onward _ (none_or (listed word place)) (wide_quiet (the word) ps ts) (none_or_wide (listed word place) (listed_wide word place))
@@ -51,7 +53,7 @@ thread_type_wide ps ts =
     (wide_quiet (type_end (type_name (On ts)))))
     (wide_put (λ qs. type_row (type_name (On ts)).start (parent_in (On ts)) qs) (λ qs. refl) (λ qs l. l))
 
-implementation_wide : (word of place : ℕ) → WideOn (implementation word of place)
+implementation_wide : (word : Kind) (of place : ℕ) → WideOn (implementation word of place)
 unfolding implementation
 implementation_wide word of place ps ts =
     wide_onward _ (quiet (implementation_end (first_name word (On ts)) (second_name word (On ts))))

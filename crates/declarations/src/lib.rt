@@ -7,111 +7,104 @@ ghost use Rattle.tokens.specs.Tokens.{from};
 ghost use Rattle.steps.specs.Steps.{◌⟫◌, head};
 ghost use Rattle.steps.specs.Lifted.{lift};
 ghost use Rattle.rows.specs.States.{state_of, does};
-ghost use Rattle.declarations.specs.Sections.{list_kind, allowed, listed, list_in, properties_of, section, sections};
+ghost use Rattle.declarations.specs.Sections.{begun_by, list_kind, allowed, listed, list_in, properties_of, section, sections};
 ghost use Rattle.declarations.specs.Declarations.{maybe_extends, type_end, thread_type, implementation_end, implementation, thread_implementation};
 ghost use Rattle.declarations.specs.Declarations.{process_implementation};
 
 use features::features;
 use links::connections;
 use phrases::{begins_section, classifier, nothing, scopes, skipped};
-use properties::{OF_PROCESS, OF_THREAD, properties_in};
+use properties::{Of, properties_in};
 use rows::{NO_PROPERTIES, Reading, merged, next_of, on, put, symbol_on, with_props};
 use steps::{Went, name, next, own, start_of, symbol};
 use threads::subcomponents;
-use words::kinds::{
-    CONNECTIONS, DOT, END, EXTENDS, FEATURES, IMPLEMENTATION, MODES, NONE, PROCESS, PROPERTIES,
-    SEMICOLON, SUBCOMPONENTS, THREAD,
-};
+use words::kinds::Kind;
 
-// What the rows of these begin with.
-const A_PROCESS: usize = 1;
-
-const A_TYPE: usize = 2;
-
-const AN_IMPLEMENTATION: usize = 3;
+// What has sections. Its number is what its row begins with.
+#[derive(Clone, Copy)]
+enum Sort {
+    Process = 1,
+    Type = 2,
+    Implementation = 3,
+}
 
 // Whether a section of a list begins with this word here.
-fn begins_list(of: usize, kind: usize) -> bool
-    ensures { result ≡ list_kind of kind }
+#[tactic(auto, unfolding(crate::specs::Sections::list_kind))]
+fn begins_list(of: Sort, kind: Kind) -> bool
+    ensures { result ≡ list_kind (begun_by of) kind }
 {
-    if of == A_TYPE {
-        return kind == FEATURES;
+    match of {
+        Sort::Type => kind == Kind::Features,
+        Sort::Process => matches!(kind, Kind::Subcomponents | Kind::Connections),
+        Sort::Implementation => false,
     }
-    if of != A_PROCESS {
-        return false;
-    }
-    if kind == SUBCOMPONENTS {
-        return true;
-    }
-    kind == CONNECTIONS
 }
 
 // Whether any section begins with this word here.
-fn begins(of: usize, kind: usize) -> bool
-    ensures { result ≡ allowed of kind }
+#[tactic(auto, unfolding(crate::specs::Sections::allowed))]
+fn begins(of: Sort, kind: Kind) -> bool
+    ensures { result ≡ allowed (begun_by of) kind }
 {
-    if kind == FEATURES {
-        return of == A_TYPE;
+    match kind {
+        Kind::Features => matches!(of, Sort::Type),
+        Kind::Modes => !matches!(of, Sort::Process),
+        _ => begins_section(kind),
     }
-    if kind == MODES {
-        return of != A_PROCESS;
-    }
-    begins_section(kind)
 }
 
 // { feature } | { subcomponent } | { connection }
-fn listed(text: &[u8], rows: &mut [usize], reading: Reading, word: usize, place: usize) -> Reading
+fn listed(text: &[u8], rows: &mut [usize], reading: Reading, word: Kind, place: usize) -> Reading
     ensures { state_of text.now result rows.new
         ≡ does (state_of text.now reading rows.old) (listed word place) }
 {
-    if word == FEATURES {
+    if word == Kind::Features {
         return features(text, rows, reading, place);
     }
-    if word == SUBCOMPONENTS {
+    if word == Kind::Subcomponents {
         return subcomponents(text, rows, reading, place);
     }
     connections(text, rows, reading, place)
 }
 
 // Its word, then ( "none" ";" | { .. } )
-fn list_in(text: &[u8], rows: &mut [usize], reading: Reading, word: usize, place: usize) -> Reading
+fn list_in(text: &[u8], rows: &mut [usize], reading: Reading, word: Kind, place: usize) -> Reading
     ensures { state_of text.now result rows.new
         ≡ does (state_of text.now reading rows.old) (list_in word place) }
 {
     let inner = symbol_on(text, reading, word);
     let went = inner.went;
-    if next(text, went) == NONE {
+    if next(text, went) == Kind::None {
         return on(inner, nothing(text, went));
     }
     listed(text, rows, inner, word, place)
 }
 
 // "properties" associations: a thread's count, those of a process are noted.
-fn properties_of(text: &[u8], reading: Reading, of: usize) -> Reading
-    ensures { (m : List ℕ) → state_of text.now result m ≡ does (state_of text.now reading m) (properties_of of) }
+fn properties_of(text: &[u8], reading: Reading, of: Sort) -> Reading
+    ensures { (m : List ℕ) → state_of text.now result m ≡ does (state_of text.now reading m) (properties_of (begun_by of)) }
 {
-    if of == A_PROCESS {
-        return properties_in(text, reading, OF_PROCESS);
+    if let Sort::Process = of {
+        return properties_in(text, reading, Of::Process);
     }
     let went = reading.went;
-    let Went::To(_) = went else {
+    let Ok(_) = went else {
         return reading;
     };
     let before = reading.props;
-    let inner = properties_in(text, with_props(reading, NO_PROPERTIES), OF_THREAD);
+    let inner = properties_in(text, with_props(reading, NO_PROPERTIES), Of::Thread);
     let found = inner.props;
     with_props(inner, merged(before, found))
 }
 
-fn section(text: &[u8], rows: &mut [usize], reading: Reading, of: usize, place: usize) -> Reading
+fn section(text: &[u8], rows: &mut [usize], reading: Reading, of: Sort, place: usize) -> Reading
     ensures { state_of text.now result rows.new
-        ≡ does (state_of text.now reading rows.old) (section of place) }
+        ≡ does (state_of text.now reading rows.old) (section (begun_by of) place) }
 {
     let kind = next_of(text, reading);
     if begins_list(of, kind) {
         return list_in(text, rows, reading, kind, place);
     }
-    if kind == PROPERTIES {
+    if kind == Kind::Properties {
         return properties_of(text, reading, of);
     }
     let went = reading.went;
@@ -119,9 +112,9 @@ fn section(text: &[u8], rows: &mut [usize], reading: Reading, of: usize, place: 
 }
 
 // { section }
-fn sections(text: &[u8], rows: &mut [usize], reading: Reading, of: usize, place: usize) -> Reading
+fn sections(text: &[u8], rows: &mut [usize], reading: Reading, of: Sort, place: usize) -> Reading
     ensures { state_of text.now result rows.new
-        ≡ does (state_of text.now reading rows.old) (sections of place) }
+        ≡ does (state_of text.now reading rows.old) (sections (begun_by of) place) }
 {
     let mut r = reading;
     while begins(of, next_of(text, r)) {
@@ -134,17 +127,21 @@ fn sections(text: &[u8], rows: &mut [usize], reading: Reading, of: usize, place:
 fn maybe_extends(text: &[u8], went: Went) -> Went
     ensures { lift text.now result ≡ lift text.now went ⟫ maybe_extends }
 {
-    if next(text, went) != EXTENDS {
+    if next(text, went) != Kind::Extends {
         return went;
     }
-    classifier(text, symbol(text, went, EXTENDS))
+    classifier(text, symbol(text, went, Kind::Extends))
 }
 
 // "end" NAME ";", the NAME that stands at `named`
 fn type_end(text: &[u8], went: Went, named: usize) -> Went
     ensures { lift text.now result ≡ lift text.now went ⟫ type_end (head (from text.now named)) }
 {
-    symbol(text, own(text, symbol(text, went, END), named), SEMICOLON)
+    symbol(
+        text,
+        own(text, symbol(text, went, Kind::End), named),
+        Kind::Sign(b';'),
+    )
 }
 
 // "thread" NAME [ "extends" classifier ] { section } "end" NAME ";"
@@ -153,19 +150,30 @@ pub fn thread_type(text: &[u8], rows: &mut [usize], reading: Reading) -> Reading
         ≡ does (state_of text.now reading rows.old) thread_type }
 {
     let went = reading.went;
-    let before = symbol(text, went, THREAD);
+    let before = symbol(text, went, Kind::Thread);
     let named = start_of(text, before);
     let behind = name(text, before);
-    let parent = start_of(text, scopes(text, symbol(text, behind, EXTENDS)));
+    let parent = start_of(text, scopes(text, symbol(text, behind, Kind::Extends)));
     let head = on(reading, maybe_extends(text, behind));
-    let inner = sections(text, rows, head, A_TYPE, named);
+    let inner = sections(text, rows, head, Sort::Type, named);
     let last = inner.went;
     let whole = on(inner, type_end(text, last, named));
     let p = whole.props;
     put(
         rows,
         whole,
-        [A_TYPE, 0, named, parent, 0, p[0], p[1], p[2], p[3], p[4]],
+        [
+            Sort::Type as usize,
+            0,
+            named,
+            parent,
+            0,
+            p[0],
+            p[1],
+            p[2],
+            p[3],
+            p[4],
+        ],
     )
 }
 
@@ -174,8 +182,12 @@ fn implementation_end(text: &[u8], went: Went, first: usize, second: usize) -> W
     ensures { lift text.now result ≡ lift text.now went
         ⟫ implementation_end (head (from text.now first)) (head (from text.now second)) }
 {
-    let typed = symbol(text, own(text, symbol(text, went, END), first), DOT);
-    symbol(text, own(text, typed, second), SEMICOLON)
+    let typed = symbol(
+        text,
+        own(text, symbol(text, went, Kind::End), first),
+        Kind::Sign(b'.'),
+    );
+    symbol(text, own(text, typed, second), Kind::Sign(b';'))
 }
 
 // Its word, "implementation" NAME "." NAME { section } "end" NAME "." NAME ";"
@@ -183,16 +195,16 @@ fn implementation(
     text: &[u8],
     rows: &mut [usize],
     reading: Reading,
-    word: usize,
-    of: usize,
+    word: Kind,
+    of: Sort,
     place: usize,
 ) -> Reading
     ensures { state_of text.now result rows.new
-        ≡ does (state_of text.now reading rows.old) (implementation word of place) }
+        ≡ does (state_of text.now reading rows.old) (implementation word (begun_by of) place) }
 {
     let went = reading.went;
-    let typed = symbol(text, symbol(text, went, word), IMPLEMENTATION);
-    let made = symbol(text, name(text, typed), DOT);
+    let typed = symbol(text, symbol(text, went, word), Kind::Implementation);
+    let made = symbol(text, name(text, typed), Kind::Sign(b'.'));
     let first = start_of(text, typed);
     let second = start_of(text, made);
     let inner = sections(text, rows, on(reading, name(text, made)), of, place);
@@ -206,16 +218,16 @@ pub fn thread_implementation(text: &[u8], rows: &mut [usize], reading: Reading) 
         ≡ does (state_of text.now reading rows.old) thread_implementation }
 {
     let went = reading.went;
-    let typed = symbol(text, symbol(text, went, THREAD), IMPLEMENTATION);
+    let typed = symbol(text, symbol(text, went, Kind::Thread), Kind::Implementation);
     let first = start_of(text, typed);
-    let second = start_of(text, symbol(text, name(text, typed), DOT));
-    let whole = implementation(text, rows, reading, THREAD, AN_IMPLEMENTATION, 0);
+    let second = start_of(text, symbol(text, name(text, typed), Kind::Sign(b'.')));
+    let whole = implementation(text, rows, reading, Kind::Thread, Sort::Implementation, 0);
     let p = whole.props;
     put(
         rows,
         whole,
         [
-            AN_IMPLEMENTATION,
+            Sort::Implementation as usize,
             0,
             first,
             0,
@@ -236,6 +248,10 @@ pub fn process_implementation(text: &[u8], rows: &mut [usize], reading: Reading)
 {
     let went = reading.went;
     let place = start_of(text, went);
-    let whole = implementation(text, rows, reading, PROCESS, A_PROCESS, place);
-    put(rows, whole, [A_PROCESS, place, place, 0, 0, 0, 0, 0, 0, 0])
+    let whole = implementation(text, rows, reading, Kind::Process, Sort::Process, place);
+    put(
+        rows,
+        whole,
+        [Sort::Process as usize, place, place, 0, 0, 0, 0, 0, 0, 0],
+    )
 }

@@ -1,6 +1,6 @@
 -- The console's desk, line by line: what a line does to the desk and to the lent memory, and the line that answers it. A line is any
 -- list of bytes. Everything below is document 01's paragraph "The console".
-use Rattle.std.specs.Prelude.{◌+◌, ◌/◌, ◌%◌, ◌^◌, ◌≡◌}
+use Rattle.std.specs.Prelude.{◌+◌, ◌/◌, ◌%◌, ◌^◌, ◌≡◌, Ok, Err}
 use Rattle.common.specs.Words.{ℕ, Bool, true, false, cond, List, [], leb, eqb, length, get_or, set, replicate, sets}
 use Rattle.common.specs.Table.{table}
 use Rattle.plan.specs.Limits.{task_limit, queue_limit}
@@ -12,7 +12,7 @@ use Rattle.digits.specs.Hex.{is_line, bytes_in}
 use Rattle.frames.specs.Frames.{frame_of, payload_in}
 use Rattle.frames.specs.Answers.{sizes_bytes, refusal_bytes, bad_bytes, line_of}
 use Rattle.calls.specs.CallLines.{is_call, line_call}
-use Rattle.desk.specs.Types.{Plan, Refusal, Planned, Answer, State, Started, Frame, Desk, Stepped}
+use Rattle.desk.specs.Types.{Plan, Refusal, Verdict, Planned, State, Frame, Desk}
 
 -- what a line comes to: the desk and the memory after it, and the bytes of the line that answers it, none where it has no answer
 pub record Turn : Type 0 where
@@ -122,13 +122,13 @@ with_run d p s = record {
 }
 
 -- "81 and each size (2)"
-abbrev pub start_turn : Desk → Plan → List ℕ → Started → Turn
-start_turn d p m Started.Ready = says (with_run d p fresh) (start_memory p m) (sizes_bytes p.size p.queues)
-start_turn d p m (Started.Refused r) = refused_go m r
+abbrev pub start_turn : Desk → Plan → List ℕ → Verdict → Turn
+start_turn d p m (Ok it) = says (with_run d p fresh) (start_memory p m) (sizes_bytes p.size p.queues)
+start_turn d p m (Err r) = refused_go m r
 
-abbrev pub plan_turn : Desk → Plan → List ℕ → Answer → Turn
-plan_turn d p m Answer.Accepted = start_turn d p m (start_answer p m)
-plan_turn d p m (Answer.Refused r) = refused_go m r
+abbrev pub plan_turn : Desk → Plan → List ℕ → Verdict → Turn
+plan_turn d p m (Ok it) = start_turn d p m (start_answer p m)
+plan_turn d p m (Err r) = refused_go m r
 
 unfoldable pub go_turn : Desk → List ℕ → Turn
 go_turn d m = cond d.running (bad d m) (plan_turn d (planned d).plan m (planned d).answer)
@@ -179,9 +179,8 @@ framed_bytes line = cond (is_line line) (bytes_in line) []
 unfoldable pub line_turn : Desk → List ℕ → List ℕ → Turn
 line_turn d m line = cond (is_line line) (bytes_turn d m (bytes_in line)) (bad d m)
 
--- what a function that takes a turn hands back, where there is room for its answer
-abbrev pub stepped : Turn → Stepped
-stepped t = record { desk = t.desk; written = length t.answer }
-
-abbrev pub Takes : Turn → List ℕ → Stepped → List ℕ → List ℕ → Type 0
-Takes t out r memory out' = (r ≡ stepped t) × (memory ≡ t.memory) × (out' ≡ sets out 0 t.answer)
+-- what a function that takes a turn leaves, where there is room for its answer: the desk, how many bytes were written, the memory and the
+-- buffer
+abbrev pub Takes : Turn → List ℕ → Desk → ℕ → List ℕ → List ℕ → Type 0
+Takes t out desk written memory out' =
+    (desk ≡ t.desk) × (written ≡ length t.answer) × (memory ≡ t.memory) × (out' ≡ sets out 0 t.answer)

@@ -4,7 +4,7 @@ use Rattle.std.specs.Prelude.{◌<◌, ◌&&◌, ◌≡◌}
 use Rattle.common.specs.Words.{ℕ, Bool, true, false, true≢false, cond, not, List, refl, sym, ap, ◌∙◌, leb, leb-false, not-true}
 use Rattle.frames.specs.Frames.{frame_of, payload_in}
 use Rattle.frames.specs.Writing.{Written}
-use Rattle.desk.specs.Types.{Frame, Desk, Stepped}
+use Rattle.desk.specs.Types.{Frame, Desk}
 use Rattle.desk.specs.Desk.{Turn, silent, says, bad, row_turn, frame_turn, bytes_turn, Takes}
 
 pub when_true : {A : Type 0} {b : Bool} (x y : A) → b ≡ true → cond b x y ≡ x
@@ -14,9 +14,8 @@ pub when_false : {A : Type 0} {b : Bool} (x y : A) → b ≡ false → cond b x 
 when_false x y h = ap (λ (b : Bool). cond b x y) h
 
 -- a line was written, and the desk and the memory are known
-pub written : (d : Desk) (m bytes out out' : List ℕ) (n : ℕ) → Written bytes out n out' →
-    Takes (says d m bytes) out (record { desk = d; written = n }) m out'
-written d m bytes out out' n w = (rw w.0, refl, w.1)
+pub written : (d : Desk) (m bytes out out' : List ℕ) (n : ℕ) → Written bytes out n out' → Takes (says d m bytes) out d n m out'
+written d m bytes out out' n w = (refl, w.0, refl, w.1)
 
 -- ## 01 and 02
 
@@ -44,8 +43,8 @@ module _ (d : Desk) (m : List ℕ) (full : Bool) (more : Desk) where
 
 -- ## A frame
 
-pub frame_taken : (d : Desk) (m bytes out : List ℕ) {g : Frame} {payload : List ℕ} {r : Stepped} {memory out' : List ℕ} →
-    g ≡ frame_of bytes → payload ≡ payload_in bytes → Takes (frame_turn d m payload g) out r memory out' →
-    Takes (bytes_turn d m bytes) out r memory out'
+pub frame_taken : (d : Desk) (m bytes out : List ℕ) {g : Frame} {payload : List ℕ} {next : Desk} {n : ℕ} {memory out' : List ℕ} →
+    g ≡ frame_of bytes → payload ≡ payload_in bytes → Takes (frame_turn d m payload g) out next n memory out' →
+    Takes (bytes_turn d m bytes) out next n memory out'
 unfolding bytes_turn
 frame_taken d m bytes out e p x = rw (← e, ← p) x

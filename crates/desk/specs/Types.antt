@@ -1,11 +1,9 @@
 -- The types that the pages of this crate speak of, its own and those of the crates below, under their own names.
 pub use Rattle.plan.specs.declared.Plan.{Plan}
 pub use Rattle.plan.specs.declared.refusal.Refusal.{Refusal}
-pub use Rattle.planning.specs.declared.Answer.{Answer}
+pub use Rattle.plan.specs.Refusals.{Verdict}
 pub use Rattle.planning.specs.declared.Planned.{Planned}
-pub use Rattle.running.specs.declared.Started.{Started}
 pub use Rattle.mailbox.specs.declared.Starting.{Starting}
 pub use Rattle.mailbox.specs.declared.State.{State}
 pub use Rattle.frames.specs.declared.frame.Frame.{Frame}
 pub use Rattle.desk.specs.declared.Desk.{Desk}
-pub use Rattle.desk.specs.declared.Stepped.{Stepped}

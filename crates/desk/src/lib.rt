@@ -6,9 +6,9 @@ mod squares; // squares.rt: which task sends into which queue, from the sender m
 mod table; // table.rt: frames 01 to 03, until a plan is accepted
 
 ghost use Rattle.std.specs.Prelude.{◌≡◌, ◌≤◌};
-ghost use Rattle.common.specs.Words.{List, ℕ, length};
+ghost use Rattle.common.specs.Words.{length};
 ghost use Rattle.frames.specs.Answers.{longest_answer};
-ghost use Rattle.desk.specs.Desk.{new_desk, bad, with_state, table_turn, Takes};
+ghost use Rattle.desk.specs.Desk.{new_desk, table_turn, Takes};
 
 use frames::frame::Frame;
 use mailbox::State;
@@ -33,13 +33,6 @@ pub struct Desk {
     pub state: State,
 }
 
-// The next desk, and how many bytes of the buffer were written.
-#[derive(Drop)]
-pub struct Stepped {
-    pub desk: Desk,
-    pub written: usize,
-}
-
 impl Desk {
     // An empty table.
     pub fn new() -> Desk
@@ -60,36 +53,16 @@ impl Desk {
     }
 }
 
-// The desk with another state.
-pub fn with_state(mut desk: Desk, state: State) -> Desk
-    ensures { result ≡ with_state desk state }
-{
-    desk.state = state;
-    desk
-}
-
-// A line that is no frame, or comes at the wrong time.
-fn refuse_line(desk: Desk, out: &mut [u8]) -> Stepped
+// Frames 01 to 03, which change the desk as a whole; answers how many bytes of the buffer were written. Another frame does not belong to
+// the table.
+pub fn set_table(desk: &mut Desk, memory: &mut [u8], frame: Frame, out: &mut [u8]) -> usize
     requires { longest_answer ≤ length out.old }
-    ensures { (m : List ℕ) → Takes (bad desk m) out.old result m out.new }
-{
-    Stepped {
-        desk,
-        written: frames::answers::write_bad(out),
-    }
-}
-
-// Frames 01 to 03, which change the desk as a whole.
-pub fn set_table(desk: Desk, memory: &mut [u8], frame: Frame, out: &mut [u8]) -> Stepped
-    requires { longest_answer ≤ length out.old }
-    ensures { Takes (table_turn desk memory.old frame) out.old result memory.new out.new }
+    ensures { Takes (table_turn desk.old memory.old frame) out.old desk.new result memory.new out.new }
 {
     match frame {
         Frame::Task(period, deadline, priority) => add_task(desk, out, period, deadline, priority),
         Frame::Queue(receiver, mask) => add_queue(desk, out, receiver, mask),
         Frame::Go => go(desk, memory, out),
-        Frame::Send(_, _, _) => refuse_line(desk, out),
-        Frame::Receive(_, _) => refuse_line(desk, out),
-        Frame::Bad => refuse_line(desk, out),
+        Frame::Send(_, _, _) | Frame::Receive(_, _) | Frame::Bad => frames::answers::write_bad(out),
     }
 }

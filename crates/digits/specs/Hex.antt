@@ -1,10 +1,9 @@
 -- "The program reads lines of lower-case hexadecimal": which lines hold bytes, the bytes that they hold, and bytes as digits.
 -- A line is any list of bytes, without its line feed.
-use Rattle.std.specs.Prelude.{◌+◌, ◌-◌, ◌*◌, ◌/◌, ◌%◌, ◌&&◌, ◌∷◌}
+use Rattle.std.specs.Prelude.{◌+◌, ◌-◌, ◌*◌, ◌/◌, ◌%◌, ◌&&◌, ◌∷◌, Option, None, Some}
 use Rattle.common.specs.Words.{ℕ, Bool, cond, List, [], leb, ltb, eqb, length, get_or, sets}
 use Rattle.common.proofs.Rows.{every}
 use Rattle.common.specs.Table.{table}
-use Rattle.digits.specs.declared.hex.Decoded.{Decoded}
 
 -- a lower-case digit's value; for any other byte 16, which no digit has
 abbrev pub no_digit : ℕ
@@ -43,8 +42,9 @@ bytes_in line = table (byte_at line) (length line / 2)
 
 -- ## Decoding a line into a buffer
 
-unfoldable pub decoded_of : List ℕ → Decoded
-decoded_of line = cond (is_line line) (Decoded.Bytes (length line / 2)) Decoded.Bad
+-- how many bytes the line holds, where it holds bytes
+unfoldable pub decoded_of : List ℕ → Option ℕ
+decoded_of line = cond (is_line line) (Some (length line / 2)) None
 
 abbrev pub pair_at : List ℕ → ℕ → Bool
 pair_at line k = digit_at line (2 * k) && digit_at line (2 * k + 1)

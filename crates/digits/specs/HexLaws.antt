@@ -1,6 +1,6 @@
 -- Laws of digits: a line of whole pairs, the buffer after decoding, and how many digits bytes take.
 use Rattle.std.specs.Prelude.{bit_or, ◌+◌, ◌*◌, ◌/◌, ◌%◌, ◌^◌, ◌<◌, ◌≤◌, ◌&&◌, ◌∷◌, ◌++◌, ◌⊎◌}
-use Rattle.std.specs.Prelude.{◌≡◌}
+use Rattle.std.specs.Prelude.{◌≡◌, Option, None, Some}
 use Rattle.common.specs.Words.{ℕ, zero, suc, arith, add-one, Bool, true, false, cond, List, [], inl, inr, refl, sym, ap, subst, ◌∙◌, leb, ltb}
 use Rattle.common.specs.Words.{length, get_or, take, set, sets, length-sets, length-take-le, take-suc, lt-ltb, le-ltb, le-leb, lt-leb, eq-eqb, ne_eqb}
 use Rattle.common.specs.Words.{ltb-true, leb-true, eqb-true}
@@ -10,7 +10,6 @@ use Rattle.common.specs.Tests.{lt_or_le, having, and_left, and_right}
 use Rattle.common.proofs.Rows.{every, every_none, every_at}
 use Rattle.common.specs.Table.{table, table_length}
 use Rattle.common.specs.Stores.{sets_append, part_same}
-use Rattle.digits.specs.declared.hex.Decoded.{Decoded}
 use Rattle.digits.specs.Hex.{no_digit, digit, digit_at, longest_line, most_bytes, even_line, is_line, byte_at, bytes_in, pair_at, stored_at}
 use Rattle.digits.specs.Hex.{decoded_of, decoded_into, digits}
 
@@ -125,11 +124,11 @@ module _ (line : List ℕ) where
     pub passed_more :
         (high low byte : ℕ) → high ≡ digit (get_or line (2 * k) 0) → low ≡ digit (get_or line (2 * k + 1) 0) →
         byte ≡ (high * 16 + low) % 256 →
-        Passed buffer (k + 1) (set bytes k byte) (bit_or (bit_or bits high) low)
+        Passed buffer (k + 1) (set bytes k byte) (bit_or bits (bit_or high low))
     unfolding Passed every
     passed_more high low byte eh el eb = (
       rw (p.0, eb, eh, el) (sets_table (stored_at line) buffer k),
-      rw (add-one k, below_both (bit_or bits high) low, below_both bits high, p.1, eh, el) (and_assoc (every (pair_at line) k) _ _),
+      rw (add-one k, below_both bits (bit_or high low), below_both high low, p.1, eh, el, every_one (pair_at line) k),
     )
 
     pub passed_all : (n : ℕ) → k ≡ n → (ltb bits no_digit ≡ every (pair_at line) n) × (bytes ≡ sets buffer 0 (table (stored_at line) n))
@@ -150,14 +149,14 @@ table_same f g (suc n) h = rw (table_same f g n (λ i l. h i (omega arith)), h n
 
 module _ (line buffer : List ℕ) where
   -- what decoding comes to, line by line of the code
-  abbrev Gives : Decoded → List ℕ → Type 0
+  abbrev Gives : Option ℕ → List ℕ → Type 0
   Gives x bytes = (x ≡ decoded_of line) × (bytes ≡ decoded_into line buffer)
 
-  pub decoded_long : longest_line < length line → Gives Decoded.Bad buffer
+  pub decoded_long : longest_line < length line → Gives None buffer
   unfolding decoded_of decoded_into is_line
   decoded_long h = let e = lt-leb (length line) longest_line h in (rw e, rw e)
 
-  pub decoded_odd : length line ≤ longest_line → (length line % 2 ≡ 0 → ⊥) → Gives Decoded.Bad buffer
+  pub decoded_odd : length line ≤ longest_line → (length line % 2 ≡ 0 → ⊥) → Gives None buffer
   unfolding decoded_of decoded_into is_line
   decoded_odd l h =
       let e = le-leb (length line) longest_line l in
@@ -171,11 +170,11 @@ module _ (line buffer : List ℕ) where
 
     -- the pairs were decoded, and all of them are digits or not
     module _ (bytes : List ℕ) (is : bytes ≡ sets buffer 0 (table (stored_at line) (length line / 2))) where
-      pub decoded_bytes : every (pair_at line) (length line / 2) ≡ true → Gives (Decoded.Bytes (length line / 2)) bytes
+      pub decoded_bytes : every (pair_at line) (length line / 2) ≡ true → Gives (Some (length line / 2)) bytes
       unfolding decoded_of
       decoded_bytes h = (rw (line_by_pairs line fits even, h), is ∙ sym into)
 
-      pub decoded_bad : every (pair_at line) (length line / 2) ≡ false → Gives Decoded.Bad bytes
+      pub decoded_bad : every (pair_at line) (length line / 2) ≡ false → Gives None bytes
       unfolding decoded_of
       decoded_bad h = (rw (line_by_pairs line fits even, h), is ∙ sym into)
 
@@ -210,12 +209,12 @@ pub record Holds (line buffer : List ℕ) (n : ℕ) : Type 0 where
   pub within : n ≤ most_bytes
   pub bytes_are : take n (decoded_into line buffer) ≡ bytes_in line
 
-pub decoded_holds : (line buffer : List ℕ) (n : ℕ) → most_bytes ≤ length buffer → decoded_of line ≡ Decoded.Bytes n →
+pub decoded_holds : (line buffer : List ℕ) (n : ℕ) → most_bytes ≤ length buffer → decoded_of line ≡ Some n →
     Holds line buffer n
 unfolding decoded_of
 decoded_holds line buffer n room e = go (is_line line) refl e
   where
-    go : (b : Bool) → is_line line ≡ b → cond b (Decoded.Bytes (length line / 2)) Decoded.Bad ≡ Decoded.Bytes n → Holds line buffer n
+    go : (b : Bool) → is_line line ≡ b → cond b (Some (length line / 2)) None ≡ Some n → Holds line buffer n
     go false is f = absurd (let z : ◌≡◌ {A = ℕ} 0 1 = cc in omega arith)
     go true is f =
         let half : length line / 2 ≡ n = cc in
@@ -229,10 +228,10 @@ decoded_holds line buffer n room e = go (is_line line) refl e
               rw (decoded_line line buffer h.0 h.1 is) (subst (λ (k : ℕ). take k (sets buffer 0 (bytes_in line)) ≡ bytes_in line) l same);
         })
 
-pub decoded_none : (line : List ℕ) → decoded_of line ≡ Decoded.Bad → is_line line ≡ false
+pub decoded_none : (line : List ℕ) → decoded_of line ≡ None → is_line line ≡ false
 unfolding decoded_of
 decoded_none line e = go (is_line line) refl e
   where
-    go : (b : Bool) → is_line line ≡ b → cond b (Decoded.Bytes (length line / 2)) Decoded.Bad ≡ Decoded.Bad → is_line line ≡ false
+    go : (b : Bool) → is_line line ≡ b → cond b (Some (length line / 2)) None ≡ None → is_line line ≡ false
     go false is f = is
     go true is f = absurd (let z : ◌≡◌ {A = ℕ} 0 1 = cc in omega arith)

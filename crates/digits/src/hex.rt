@@ -10,19 +10,12 @@ const LONGEST: usize = 100;
 
 pub const BYTES: usize = LONGEST / 2;
 
-// What a line holds: so many bytes, or it is no frame.
-#[derive(Drop)]
-pub enum Decoded {
-    Bytes(usize),
-    Bad,
-}
-
 // A digit's value, 16 for any other byte. Both guesses are reckoned before one is chosen, so that no branch hangs on the digit.
 fn value_of(c: u8) -> u8
     ensures { result ≡ digit c }
 {
-    let decimal = std::num::wrapping_sub_u8(c, b'0');
-    let letter = std::num::wrapping_sub_u8(c, b'a');
+    let decimal = c.wrapping_sub(b'0');
+    let letter = c.wrapping_sub(b'a');
     let other = if letter < 6 { letter + 10 } else { 16 };
     if decimal < 10 { decimal } else { other }
 }
@@ -31,11 +24,12 @@ fn value_of(c: u8) -> u8
 fn byte_of(high: u8, low: u8) -> u8
     ensures { result ≡ (high * 16 + low) % 256 }
 {
-    ((high as u32 * 16 + low as u32) % 256) as u8
+    high.wrapping_mul(16).wrapping_add(low)
 }
 
 // Puts the bytes of `n` pairs into the buffer and tells whether all of them are digits. That is tested once, behind the loop, by the bits
-// of all values: a loop without a way out is compiled to instructions that take sixteen pairs at once.
+// of all values: a loop without a way out is compiled to instructions that take sixteen pairs at once. Line and buffer go by one counter,
+// since of a slice that is written through a zipped `iter_mut` a proof knows the length alone.
 fn decode_pairs(line: &[u8], bytes: &mut [u8], n: usize) -> bool
     requires { (2 * n ≤ length line.now) × (n ≤ length bytes.old) }
     ensures { (result ≡ every (pair_at line.now) n)
@@ -46,27 +40,25 @@ fn decode_pairs(line: &[u8], bytes: &mut [u8], n: usize) -> bool
         let high = value_of(line[2 * k]);
         let low = value_of(line[2 * k + 1]);
         bytes[k] = byte_of(high, low);
-        bits = bits | high | low;
+        bits |= high | low;
     }
     bits < 16
 }
 
-// The bytes of a line, from the buffer's start on.
-pub fn decode(line: &[u8], bytes: &mut [u8]) -> Decoded
+// Puts the bytes of a line into the buffer, from its start on, and answers how many they are; a line that is no frame has none.
+pub fn decode(line: &[u8], bytes: &mut [u8]) -> Option<usize>
     requires { most_bytes ≤ length bytes.old }
     ensures { (result ≡ decoded_of line.now) × (bytes.new ≡ decoded_into line.now bytes.old) }
 {
-    if LONGEST < line.len() {
-        return Decoded::Bad;
-    }
-    if line.len() % 2 != 0 {
-        return Decoded::Bad;
+    if LONGEST < line.len() || line.len() % 2 != 0 {
+        return None;
     }
     let n = line.len() / 2;
     if decode_pairs(line, bytes, n) {
-        return Decoded::Bytes(n);
+        Some(n)
+    } else {
+        None
     }
-    Decoded::Bad
 }
 
 // The digit of a value below 16.
@@ -74,10 +66,7 @@ fn letter_of(n: u8) -> u8
     requires { n < 16 }
     ensures { result ≡ letter n }
 {
-    if n < 10 {
-        return n + b'0';
-    }
-    n - 10 + b'a'
+    if n < 10 { n + b'0' } else { n - 10 + b'a' }
 }
 
 // A byte's two digits.
@@ -94,7 +83,7 @@ pub fn put_bytes(out: &mut [u8], at: usize, bytes: &[u8])
     requires { at + 2 * length bytes.now ≤ length out.old }
     ensures { out.new ≡ sets out.old at (digits bytes.now) }
 {
-    for k in 0..bytes.len() {
-        put_byte(out, at + 2 * k, bytes[k]);
+    for (k, byte) in bytes.iter().enumerate() {
+        put_byte(out, at + 2 * k, *byte);
     }
 }

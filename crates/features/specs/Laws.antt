@@ -1,6 +1,7 @@
 -- Laws of features: what the code does one after another is what the rules say, and how far they go.
+use Rattle.words.specs.Same.{same_kind}
 use Rattle.std.specs.Prelude.{◌≡◌}
-use Rattle.common.specs.Words.{ℕ, arith, true, false, refl, ap, ◌∙◌, eq-eqb, ne_eqb}
+use Rattle.common.specs.Words.{ℕ, arith, true, false, refl, ap, ◌∙◌}
 use Rattle.words.specs.Kinds.{IN, OUT, SEMICOLON}
 use Rattle.tokens.specs.Laws.{cases}
 use Rattle.steps.specs.Steps.{Step, On, Stop, ◌⟫◌, head, next, named, the}
@@ -19,17 +20,17 @@ use Rattle.features.specs.Features.{direction_of, port_head, port, other_feature
 
 -- a port's direction
 module _ (s : Step) where
-  pub way_out : (first_kind s ≡ IN → ⊥) → 2 ≡ direction_of s
+  pub way_out : same_kind (first_kind s) IN ≡ false → 2 ≡ direction_of s
   unfolding direction_of
-  way_out n = rw (ne_eqb (first_kind s) IN n)
+  way_out n = rw n
 
-  pub way_both : first_kind s ≡ IN → second_kind s ≡ OUT → 3 ≡ direction_of s
+  pub way_both : same_kind (first_kind s) IN ≡ true → same_kind (second_kind s) OUT ≡ true → 3 ≡ direction_of s
   unfolding direction_of
-  way_both e f = rw (eq-eqb (first_kind s) IN e, eq-eqb (second_kind s) OUT f)
+  way_both e f = rw (e, f)
 
-  pub way_in : first_kind s ≡ IN → (second_kind s ≡ OUT → ⊥) → 1 ≡ direction_of s
+  pub way_in : same_kind (first_kind s) IN ≡ true → same_kind (second_kind s) OUT ≡ false → 1 ≡ direction_of s
   unfolding direction_of
-  way_in e n = rw (eq-eqb (first_kind s) IN e, ne_eqb (second_kind s) OUT n)
+  way_in e n = rw (e, n)
 
 pub head_then : (s : Step) → s ⟫ direction ⟫ port_kind ⟫ maybe_classifier ≡ s ⟫ port_head
 unfolding port_head
@@ -76,7 +77,7 @@ unfolding port
 port_moves o n ps ts =
     moved_onward _ (put (λ qs. port_row o n (direction_of (On ts)) qs))
     (moved_onward _ (quiet (the SEMICOLON)) (moved_onward _ (maybe_block_in of_port) (head_moves ts) (maybe_block_moves of_port))
-    (moves_quiet (the SEMICOLON) (moves_the SEMICOLON (λ e. omega arith))))
+    (moves_quiet (the SEMICOLON) (moves_the SEMICOLON refl)))
     (moves_put (λ qs. port_row o n (direction_of (On ts)) qs))
 
 feature_of_moves : (o n : ℕ) → MovesOn 1 (feature_of o n)

@@ -1,5 +1,5 @@
 -- A port is paid for by its text.
-use Rattle.common.specs.Words.{ℕ, arith}
+use Rattle.common.specs.Words.{ℕ, arith, refl}
 use Rattle.words.specs.Kinds.{SEMICOLON}
 use Rattle.tokens.specs.Laws.{cases}
 use Rattle.steps.specs.Steps.{On, head, next, named, the}
@@ -19,7 +19,7 @@ unfolding port
 port_pays o n ps ts =
     paid_onward _ (put (λ qs. port_row o n (direction_of (On ts)) qs))
     (paid_onward _ (quiet (the SEMICOLON)) (paid_onward _ (maybe_block_in of_port) (paid_moved (head_moves ts)) (maybe_block_pays of_port))
-    (pays_quiet (the SEMICOLON) (moves_the SEMICOLON (λ e. omega arith))))
+    (pays_quiet (the SEMICOLON) (moves_the SEMICOLON refl)))
     (pays_put (λ qs. port_row o n (direction_of (On ts)) qs))
 
 feature_of_pays : (o n : ℕ) → Pays 2 0 (feature_of o n)

@@ -8,10 +8,10 @@ ghost use Rattle.rows.specs.States.{state_of, does};
 ghost use Rattle.features.specs.Features.{direction_of, port_head, port, other_feature, feature_of, feature, features};
 
 use phrases::{direction, label, maybe_classifier, port_kind, word_and_rest};
-use properties::{OF_PORT, TIMING, maybe_block_in};
+use properties::{Of, TIMING, maybe_block_in};
 use rows::{NO_PROPERTIES, Reading, next_of, on, put, symbol_on, with_props};
 use steps::{Went, is_name, next, second, start_of};
-use words::kinds::{FEATURE, IN, OUT, PROVIDES, REQUIRES, SEMICOLON};
+use words::kinds::Kind;
 
 // What a port's row begins with.
 const A_PORT: usize = 4;
@@ -20,10 +20,10 @@ const A_PORT: usize = 4;
 fn direction_of(text: &[u8], went: Went) -> usize
     ensures { result ≡ direction_of (lift text.now went) }
 {
-    if next(text, went) != IN {
+    if next(text, went) != Kind::In {
         return 2;
     }
-    if second(text, went) == OUT {
+    if second(text, went) == Kind::Out {
         return 3;
     }
     1
@@ -44,7 +44,7 @@ fn port(text: &[u8], rows: &mut [usize], reading: Reading, owner: usize, named: 
     let went = reading.went;
     let way = direction_of(text, went);
     let head = on(reading, port_head(text, went));
-    let whole = symbol_on(text, maybe_block_in(text, head, OF_PORT), SEMICOLON);
+    let whole = symbol_on(text, maybe_block_in(text, head, Of::Port), Kind::Sign(b';'));
     let props = whole.props;
     put(
         rows,
@@ -53,19 +53,11 @@ fn port(text: &[u8], rows: &mut [usize], reading: Reading, owner: usize, named: 
     )
 }
 
-fn is_other_feature(kind: usize) -> bool
+#[tactic(auto, unfolding(crate::specs::Features::other_feature))]
+fn is_other_feature(kind: Kind) -> bool
     ensures { result ≡ other_feature kind }
 {
-    if kind == REQUIRES {
-        return true;
-    }
-    if kind == PROVIDES {
-        return true;
-    }
-    if kind == FEATURE {
-        return true;
-    }
-    false
+    matches!(kind, Kind::Requires | Kind::Provides | Kind::Feature)
 }
 
 // port | other_feature

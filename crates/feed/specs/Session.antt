@@ -13,6 +13,8 @@ use Rattle.feed.specs.Feed.{enough, Feeding, still, onward, going, feed_of}
 use Rattle.feed.specs.Step.{line_cut}
 use Rattle.feed.specs.Outcome.{fed_from, Outcome}
 use Rattle.feed.specs.declared.Fed.{Fed as FedResult}
+use Rattle.desk.specs.declared.Desk.{Desk}
+use Rattle.lines.specs.declared.Carry.{Carry}
 
 -- ## One call
 
@@ -94,15 +96,13 @@ feed_moves w c (b ∷ bs) room h l = rw (le-ltb room enough h) (go (eqb b line_f
 
 -- as a caller sees it
 pub next_moves :
-    (w : Console) (held : List ℕ) (used : ℕ) (piece : List ℕ) (from : ℕ) (out held₀ out₀ : List ℕ) (r : FedResult)
-    (m h o : List ℕ) →
-    Outcome (fed_from w held used piece from out) piece from held₀ out₀ r m h o → enough ≤ length out → from < length piece →
-    from < r.next
-next_moves w held used piece from out held₀ out₀ r m h o a room l =
+    (w : Console) (c piece : List ℕ) (from : ℕ) (out out₀ : List ℕ) (r : FedResult) (d : Desk) (m : List ℕ) (k : Carry) (o : List ℕ) →
+    Outcome (fed_from w c piece from out) piece from out₀ r d m k o → enough ≤ length out → from < length piece → from < r.next
+next_moves w c piece from out out₀ r d m k o a room l =
     omega (
       arith,
       ap (λ (x : FedResult). x.next) a.result,
-      feed_moves w (take used held) (drop from piece) (length out) room (rw (length-drop from piece) (omega arith)),
+      feed_moves w c (drop from piece) (length out) room (rw (length-drop from piece) (omega arith)),
     )
 
 -- and where it leaves a part of the block, the room is short

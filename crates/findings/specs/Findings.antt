@@ -1,26 +1,25 @@
 -- AADL.md, section 6: what a text is answered with, and document 02's numbers.
-use Rattle.common.specs.Words.{ℕ, false, cond, eqb, leb, replicate}
+use Rattle.std.specs.Prelude.{Result, Ok, Err}
+use Rattle.common.specs.Words.{false, replicate}
 use Rattle.plan.specs.Limits.{task_limit, queue_limit, cell_limit}
-use Rattle.findings.specs.declared.Rule.{Rule}
-use Rattle.findings.specs.declared.Rule.TheVariants.{Unfit, Unknown, NoTime, TooDeep, Twice}
-use Rattle.findings.specs.declared.Answer.{Answer}
+pub use Rattle.steps.specs.Faults.{number_of}
+use Rattle.steps.specs.declared.faults.Fault.{Fault}
+use Rattle.findings.specs.declared.Problem.{Problem}
 use Rattle.findings.specs.declared.Table.{Table}
 use Rattle.findings.specs.declared.Read.{Read}
 
--- for people: the text is too long
-abbrev pub too_long : ℕ
-too_long = 0x340
+-- a text's answer: it is sound, it is refused, or there is no room for some text
+abbrev pub Answer : Type 0
+Answer = Result (Unit {0}) Problem
 
--- document 02's numbers
-abbrev pub number_of : Rule → ℕ
-number_of Unfit = 20
-number_of Unknown = 21
-number_of NoTime = 22
-number_of TooDeep = 23
-number_of Twice = 24
+abbrev pub sound : Answer
+sound = Ok tt
 
-unfoldable pub rule_of : ℕ → Rule
-rule_of n = cond (leb n 20) Unfit (cond (eqb n 21) Unknown (cond (eqb n 22) NoTime (cond (eqb n 23) TooDeep Twice)))
+abbrev pub refused : Fault → Answer
+refused f = Err (Problem.Refused f)
+
+abbrev pub no_room : Answer
+no_room = Err Problem.NoRoom
 
 -- where there is no table, it is that of all zeros
 abbrev pub no_table : Table

@@ -1,3 +1,2 @@
--- The pages of this crate's definitions and laws.
+-- The page of this crate's definitions.
 pub mod Findings
-pub mod Laws

@@ -1,34 +1,16 @@
-// What reading a text comes to: its table, a refusal with its place, or no room. It leans on the plan's limits alone, so that what goes on
-// with a finding, in planning, in lines or in words, does not reach the reader.
+// What reading a text comes to: its table, a refusal with its place, or no room. It leans on the plan's limits and on the refusals alone,
+// so that what goes on with a finding, in planning, in lines or in words, does not reach the reader.
 #![tactic(auto)]
 
 ghost use Rattle.std.specs.Prelude.{◌≡◌};
-ghost use Rattle.findings.specs.Findings.{number_of, rule_of, no_table};
+ghost use Rattle.findings.specs.Findings.{no_table};
 
 use plan::Plan;
+pub use steps::{Fault as Refusal, Rule};
 
-// Document 02's refusals, in the order of their numbers, 20 to 24.
-#[derive(Clone, Copy)]
-pub enum Rule {
-    Unfit,
-    Unknown,
-    NoTime,
-    TooDeep,
-    Twice,
-}
-
-// The place is the number of bytes before the token. Why is a word for people: what was expected there, or what is wrong.
-#[derive(Clone, Copy)]
-pub struct Refusal {
-    pub rule: Rule,
-    pub place: usize,
-    pub why: usize,
-}
-
-// NoRoom is for memory that is too short for some text.
-#[derive(Clone, Copy)]
-pub enum Answer {
-    Sound,
+// Why a text has no table. NoRoom is for memory that is too short for some text.
+#[derive(Clone, Copy, PartialEq, Eq)]
+pub enum Problem {
     Refused(Refusal),
     NoRoom,
 }
@@ -46,46 +28,11 @@ pub struct Table {
     pub sends: [bool; Plan::CELLS],
 }
 
-// The answer, and the table: that of all zeros where there is none.
+// The answer, and the table: that of all zeros where there is none (priorities_low and unsound_zeros say so of any text).
 #[derive(Clone, Copy)]
 pub struct Read {
-    pub answer: Answer,
+    pub answer: Result<(), Problem>,
     pub table: Table,
-}
-
-// Why, for people: the text is too long. It stands here because the text as a whole is refused, by no rule of the grammar.
-pub const TOO_LONG: usize = 0x340;
-
-// Document 02's number of a rule.
-pub fn rule_number(rule: Rule) -> u8
-    ensures { result ≡ number_of rule }
-{
-    match rule {
-        Rule::Unfit => 20,
-        Rule::Unknown => 21,
-        Rule::NoTime => 22,
-        Rule::TooDeep => 23,
-        Rule::Twice => 24,
-    }
-}
-
-// The rule of a number.
-pub fn rule_of(number: usize) -> Rule
-    ensures { result ≡ rule_of number }
-{
-    if number <= 20 {
-        return Rule::Unfit;
-    }
-    if number == 21 {
-        return Rule::Unknown;
-    }
-    if number == 22 {
-        return Rule::NoTime;
-    }
-    if number == 23 {
-        return Rule::TooDeep;
-    }
-    Rule::Twice
 }
 
 // The table of all zeros.

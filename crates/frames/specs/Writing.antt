@@ -1,12 +1,13 @@
 -- Writing a line piece by piece: digits behind digits are the digits of all the bytes, and the line feed ends them.
-use Rattle.std.specs.Prelude.{◌+◌, ◌*◌, ◌∷◌, ◌++◌, ◌≡◌}
-use Rattle.common.specs.Words.{ℕ, zero, suc, arith, add-one, List, [], append_assoc, refl, ◌∙◌, length, get_or, length-append, sets}
+use Rattle.std.specs.Prelude.{◌+◌, ◌*◌, ◌∷◌, ◌++◌, ◌≡◌, ◌<◌, ◌≤◌}
+use Rattle.common.specs.Words.{ℕ, zero, suc, arith, add-one, List, [], append_assoc, refl, ◌∙◌, length, get_or, length-append, sets, take}
+use Rattle.common.specs.Words.{length-take-le, get_or-take}
 use Rattle.common.specs.Stores.{sets_append}
 use Rattle.digits.specs.Hex.{digits}
 use Rattle.digits.specs.HexLaws.{digits_append, digits_length}
 use Rattle.digits.specs.Numbers.{in_bytes}
 use Rattle.digits.specs.NumberLaws.{bytes_length}
-use Rattle.frames.specs.Answers.{line_of, each_size}
+use Rattle.frames.specs.Answers.{line_of, each_size, sizes_bytes}
 
 -- what a function that writes an answer's line leaves: how many bytes it wrote, and the buffer after
 abbrev pub Written : List ℕ → List ℕ → ℕ → List ℕ → Type 0
@@ -57,6 +58,18 @@ unfolding each_size
 sizes_length sizes zero = refl
 sizes_length sizes (suc n) =
     length-append (each_size sizes n) (in_bytes 2 (get_or sizes n 0)) ∙ omega (arith, sizes_length sizes n, bytes_length 2 (get_or sizes n 0))
+
+-- of sizes that are lent as a slice
+each_front : (sizes : List ℕ) (n k : ℕ) → k ≤ n → each_size (take n sizes) k ≡ each_size sizes k
+unfolding each_size
+each_front sizes n zero h = refl
+each_front sizes n (suc k) h =
+    let l : k < n = omega arith in
+    rw (each_front sizes n k (omega arith), get_or-take n sizes k 0 l)
+
+pub sizes_front : (sizes : List ℕ) (n : ℕ) → n ≤ length sizes → sizes_bytes (take n sizes) (length (take n sizes)) ≡ sizes_bytes sizes n
+unfolding sizes_bytes
+sizes_front sizes n h = rw (length-take-le n sizes h, each_front sizes n n (omega arith))
 
 pub sizes_more : (sizes l : List ℕ) (q : ℕ) →
     sets (sets l 2 (digits (each_size sizes q))) (2 + 4 * q) (digits (in_bytes 2 (get_or sizes q 0))) ≡ sets l 2 (digits (each_size sizes (q + 1)))

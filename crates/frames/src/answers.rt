@@ -9,7 +9,6 @@ ghost use Rattle.frames.specs.Writing.{Written};
 
 use calendar::{Number, Slot};
 use digits::numbers::put_number;
-use plan::Plan;
 use plan::refusal::Refusal;
 
 // The line feed behind so many digits, and how long the line is.
@@ -42,9 +41,8 @@ pub fn write_refusal(out: &mut [u8], refusal: Refusal) -> usize
     requires { longest_answer ≤ length out.old }
     ensures { Written (refusal_bytes refusal) out.old result out.new }
 {
-    let rule = refusal.rule;
     put_number(out, 0, 1, 0x7f);
-    put_number(out, 2, 1, plan::refusal::rule_number(rule) as u64);
+    put_number(out, 2, 1, u64::from(u8::from(refusal.rule)));
     put_number(out, 4, 1, refusal.row as u64);
     end_line(out, 6)
 }
@@ -79,21 +77,21 @@ pub fn write_message(out: &mut [u8], number: Number, payload: &[u8]) -> usize
     end_line(out, 14 + 2 * payload.len())
 }
 
-// The sizes of the first queues, from digit 2 on.
-fn put_sizes(out: &mut [u8], sizes: [usize; Plan::QUEUES], queues: usize)
-    requires { (longest_answer ≤ length out.old) × (queues ≤ queue_limit) }
-    ensures { out.new ≡ sets out.old 2 (digits (each_size sizes queues)) }
+// The sizes of the queues, from digit 2 on.
+fn put_sizes(out: &mut [u8], sizes: &[usize])
+    requires { (longest_answer ≤ length out.old) × (length sizes.now ≤ queue_limit) }
+    ensures { out.new ≡ sets out.old 2 (digits (each_size sizes.now (length sizes.now))) }
 {
-    for q in 0..queues {
-        put_number(out, 2 + 4 * q, 2, sizes[q] as u64);
+    for (q, size) in sizes.iter().enumerate() {
+        put_number(out, 2 + 4 * q, 2, *size as u64);
     }
 }
 
-pub fn write_sizes(out: &mut [u8], sizes: [usize; Plan::QUEUES], queues: usize) -> usize
-    requires { (longest_answer ≤ length out.old) × (queues ≤ queue_limit) }
-    ensures { Written (sizes_bytes sizes queues) out.old result out.new }
+pub fn write_sizes(out: &mut [u8], sizes: &[usize]) -> usize
+    requires { (longest_answer ≤ length out.old) × (length sizes.now ≤ queue_limit) }
+    ensures { Written (sizes_bytes sizes.now (length sizes.now)) out.old result out.new }
 {
     put_number(out, 0, 1, 0x81);
-    put_sizes(out, sizes, queues);
-    end_line(out, 2 + 4 * queues)
+    put_sizes(out, sizes);
+    end_line(out, 2 + 4 * sizes.len())
 }

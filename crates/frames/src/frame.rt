@@ -23,14 +23,14 @@ const PAYLOAD: usize = 8;
 fn task_length(bytes: usize) -> bool
     ensures { result ≡ task_length bytes }
 {
-    if bytes == 5 { true } else { bytes == 6 }
+    bytes == 5 || bytes == 6
 }
 
 // The priority is the sixth byte, 0 where there is none.
 fn priority_in(bytes: &[u8]) -> u8
     ensures { result ≡ get_or bytes.now 5 0 }
 {
-    if bytes.len() < 6 { 0 } else { bytes[5] }
+    bytes.get(5).copied().unwrap_or(0)
 }
 
 fn task_in(bytes: &[u8]) -> Frame
@@ -86,26 +86,17 @@ fn receive_in(bytes: &[u8]) -> Frame
 pub fn frame_of(bytes: &[u8]) -> Frame
     ensures { result ≡ frame_of bytes.now }
 {
-    if bytes.len() == 0 {
+    if bytes.is_empty() {
         return Frame::Bad;
     }
-    let kind = bytes[0];
-    if kind == 0x01 {
-        return task_in(bytes);
+    match bytes[0] {
+        0x01 => task_in(bytes),
+        0x02 => queue_in(bytes),
+        0x03 => go_in(bytes),
+        0x04 => send_in(bytes),
+        0x05 => receive_in(bytes),
+        _ => Frame::Bad,
     }
-    if kind == 0x02 {
-        return queue_in(bytes);
-    }
-    if kind == 0x03 {
-        return go_in(bytes);
-    }
-    if kind == 0x04 {
-        return send_in(bytes);
-    }
-    if kind == 0x05 {
-        return receive_in(bytes);
-    }
-    Frame::Bad
 }
 
 // The payload of a send's frame, none where the frame is too short for one.

@@ -15,8 +15,8 @@ use Rattle.plan.specs.Sound.{sound_iff}
 use Rattle.slots.specs.Slots.{bytes_of, number_from, stored, cleared}
 use Rattle.running.specs.Calls as running
 use Rattle.running.specs.View.{view_of}
-use Rattle.mailbox.specs.Calls.{start_memory, send_state, receive_state, found}
-use Rattle.history.specs.Types.{Plan, Sent, Received}
+use Rattle.mailbox.specs.Calls.{stored_as, start_memory, send_state, receive_state, found}
+use Rattle.history.specs.Types.{Plan, Received}
 use Rattle.history.specs.History.{History, start, ◌then◌, send, receive, same, Begins, after, world, send_says, receive_says, accepted_as, SentIn}
 use Rattle.history.specs.History.{Reading, read_by, window_numbers, Among, ReadToEnd}
 use Rattle.history.proofs.Ground.{valid_at}
@@ -81,7 +81,7 @@ abbrev pub session : History
 session = start then send 0 1 3 payload then receive 0 10 then receive 0 10 then receive 0 10 then receive 0 10
 
 -- "840000000000020002"
-pub stored_two : send_says table_a (world table_a (blank table_a) start) 0 1 3 payload ≡ Sent.Stored (message 2) (slot 2)
+pub stored_two : send_says table_a (world table_a (blank table_a) start) 0 1 3 payload ≡ stored_as (message 2) (slot 2)
 unfolding
     sound_plan checked_plan counts_good one_to task_good queue_good only_tasks_send places_good place_good every some first_bad sum
     count has_deadline precedes up_to due_at followers number running.send_answer start_memory cleared

@@ -1,16 +1,16 @@
 -- After every history the invariant holds of every queue: from the start, which clears the slots, over each call.
 use Rattle.std.specs.Prelude.{◌*◌, ◌≤◌, ◌<◌, ◌⊎◌, ◌≡◌}
-use Rattle.common.specs.Words.{ℕ, arith, le_refl, ℕ_discrete, Bool, true, false, true≢false, List, inl, inr, refl, sym, ap, subst, ◌∙◌}
+use Rattle.common.specs.Words.{ℕ, arith, le_refl, ℕ_discrete, true, List, refl, sym, subst, ◌∙◌}
 use Rattle.common.specs.Words.{length, drop, length-replicate, ltb-false, not-false}
 use Rattle.plan.specs.Limits.{queue_limit, cell_limit, payload_bytes, slot_bytes}
 use Rattle.plan.specs.Plan.{slots_of}
 use Rattle.plan.specs.Rules.{sound_plan}
 use Rattle.plan.specs.Sound.{Sound}
-use Rattle.history.specs.Types.{Plan, Refusal, Started}
+use Rattle.history.specs.Types.{Plan}
 use Rattle.slots.specs.Slots.{cleared}
 use Rattle.slots.specs.SlotLaws.{length_cleared, number_cleared, behind_stored, behind_cleared}
 use Rattle.mailbox.specs.Calls.{start_lines, start_answer, start_memory, slot_for}
-use Rattle.plan.specs.Verdicts.{Passed, Stopped, passed_good, stopped_refused, passed_or_stopped}
+use Rattle.plan.specs.Verdicts.{Passed, passed_good, clear_passed}
 use Rattle.history.specs.History.{Call, send, World, History, start, ◌then◌, Begins, begun, world, Sends, SentIn}
 use Rattle.history.proofs.Steps.{CanSend, Step, sends, finds, ends, stays, step, sent_world, number_at}
 use Rattle.history.proofs.Ground.{Fitting, slot_inside_lem}
@@ -21,16 +21,7 @@ use Rattle.history.proofs.Invariant.{Shape, Inv, held, step_shape, untouched, ot
 module _ {p : Plan} {m : List ℕ} (begins : Begins p m) where
   ready_passes : Passed (start_lines p m)
   unfolding start_answer
-  ready_passes = go (passed_or_stopped (start_lines p m))
-    where
-      is_ready : Started → Bool
-      is_ready Started.Ready = true
-      is_ready (Started.Refused r) = false
-
-      go : Passed (start_lines p m) ⊎ ((r : Refusal) × Stopped (start_lines p m) r) → Passed (start_lines p m)
-      go (inl h) = h
-      go (inr h) = absurd (true≢false
-          (ap is_ready (sym begins.ready ∙ stopped_refused (start_lines p m) h.0 Started.Refused Started.Ready h.1)))
+  ready_passes = clear_passed (start_lines p m) begins.ready
 
   pub ready_sound : sound_plan p ≡ true
   ready_sound = not-false (sound_plan p) ready_passes.0

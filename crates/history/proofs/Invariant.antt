@@ -1,6 +1,6 @@
 -- What holds of each queue after every history: whatever was sent has in its slot itself or a higher number, and what a slot holds was sent.
 -- It leans on the view of one call (Steps), on the laws of slots, and on fit sizes.
-use Rattle.std.specs.Prelude.{◌+◌, ◌*◌, ◌%◌, ◌≤◌, ◌<◌, ◌⊎◌, ◌≡◌}
+use Rattle.std.specs.Prelude.{◌+◌, ◌*◌, ◌%◌, ◌≤◌, ◌<◌, ◌⊎◌, ◌≡◌, Result, Ok, Err}
 use Rattle.common.specs.Words.{ℕ, arith, le_refl, div-mul-le_self, ℕ_discrete, List, inl, inr, ⊎_elim, refl, sym, ap, subst, ◌∙◌, length}
 use Rattle.common.specs.Words.{get_or, length-set, get_or-set_same, get_or-set_other}
 use Rattle.common.specs.Tests.{lt_or_le, having}
@@ -12,7 +12,7 @@ use Rattle.model.proofs.Outdating.{outdated_iff, horizon_back}
 use Rattle.plan.specs.Limits.{task_limit, queue_limit, cell_limit, payload_bytes, slot_bytes}
 use Rattle.plan.specs.Plan.{queue_at, size_at, slots_of}
 use Rattle.plan.specs.Sound.{Sound}
-use Rattle.history.specs.Types.{Plan, Sent}
+use Rattle.history.specs.Types.{Plan, Refusal, Stored}
 use Rattle.slots.specs.Slots.{number_in, payload_in}
 use Rattle.slots.specs.SlotLaws.{number_same, number_other, payload_same, payload_other, length_stored}
 use Rattle.mailbox.specs.Calls.{slot_for, running_job}
@@ -114,9 +114,9 @@ pub sent_is : {p : Plan} {w : World} {r i t q n : ℕ} {b c : List ℕ} → CanS
     (r ≡ q) × (n ≡ number_at p w r i t) × (b ≡ c)
 sent_is {p} {w} {r} {i} {t} {q} {n} {b} h (accepted_as e) = (refl, ap number_stored (sym e ∙ send_stores p w r i t b h), refl)
   where
-    number_stored : Sent → ℕ
-    number_stored (Sent.Stored n s) = n.0
-    number_stored (Sent.Refused r) = 0
+    number_stored : Result Stored Refusal → ℕ
+    number_stored (Ok it) = it.number.0
+    number_stored (Err r) = 0
 
 -- no message can be sent once it is outdated
 pub outdated_late : (Q : Queue) → Valid Q → (i k : ℕ) → Sender Q i → deadline_of Q i k ≤ outdated_at Q (deadline_of Q i k)

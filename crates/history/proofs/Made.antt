@@ -6,10 +6,10 @@ use Rattle.plan.specs.Limits.{payload_bytes, slot_bytes}
 use Rattle.plan.specs.Plan.{queue_at, size_at, slots_of}
 use Rattle.plan.specs.Rules.{sound_plan}
 use Rattle.plan.specs.Sound.{Sound, sound_iff}
-use Rattle.history.specs.Types.{Plan, Started}
+use Rattle.history.specs.Types.{Plan}
 use Rattle.planning.specs.AcceptedPlan.{Made}
 use Rattle.mailbox.specs.Calls.{start_lines, start_answer}
-use Rattle.plan.specs.Verdicts.{passed_good}
+use Rattle.plan.specs.Verdicts.{passed_clear}
 use Rattle.history.specs.History.{Begins}
 use Rattle.history.proofs.Ground.{Fitting, valid_at}
 use Rattle.history.proofs.Short.{Short, too_small}
@@ -25,7 +25,7 @@ pub blank_begins : (p : Plan) → sound_plan p ≡ true → Begins p (blank p)
 unfolding start_answer
 blank_begins p sound =
     record {
-      ready = passed_good (start_lines p (blank p)) Started.Refused Started.Ready (
+      ready = passed_clear (start_lines p (blank p)) (
         rw sound,
         (
           le-ltb (length (blank p)) (slots_of p * slot_bytes) (omega (arith, length-replicate {A = ℕ} (slots_of p * slot_bytes) 0)),

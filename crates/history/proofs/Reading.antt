@@ -5,7 +5,7 @@ use Rattle.common.specs.Words.{get_or, set, get_or-set_same, get_or-set_other}
 use Rattle.std.proofs.Math.Arith.{lt_of_le-ne}
 use Rattle.common.specs.Tests.{having}
 use Rattle.calendar.specs.Calendar.{message}
-use Rattle.history.specs.Types.{Slot, Plan, Sent, Received}
+use Rattle.history.specs.Types.{Slot, Plan, Received}
 use Rattle.model.specs.Model.{Queue, Sender, receiver_period, release_of, deadline_of, up_to, number, first, last, sender_of, job_of}
 use Rattle.model.proofs.Number.{up_to_mono}
 use Rattle.model.proofs.WayBack.{way_there}
@@ -13,7 +13,7 @@ use Rattle.model.proofs.Window.{window_iff}
 use Rattle.plan.specs.Limits.{last_tick, queue_limit, payload_bytes}
 use Rattle.plan.specs.Plan.{queue_at}
 use Rattle.plan.specs.Sound.{Sound}
-use Rattle.mailbox.specs.Calls.{running_job, receiving_job}
+use Rattle.mailbox.specs.Calls.{running_job, receiving_job, stored_as}
 use Rattle.running.specs.View.{view_of}
 use Rattle.history.specs.History.{Call, send, receive, World, send_says, History, start, ◌then◌, ◌⊑◌, same, more, Begins, world}
 use Rattle.history.specs.History.{receive_says, Sends, accepted_as, SentIn, Tells, of_gap, AcceptedCall, tells, empty, read_by, numbers, up_from}
@@ -29,7 +29,7 @@ use Rattle.history.proofs.Answers.{refused, shown, in_time}
 -- ## A send is its job's
 
 -- an accepted send is made by a sender of the queue, in the job whose message has the number that it is answered
-pub sent_by_its_job : (p : Plan) (w : World) (q i t n : ℕ) (b : List ℕ) (s : Slot) → send_says p w q i t b ≡ Sent.Stored (message n) s →
+pub sent_by_its_job : (p : Plan) (w : World) (q i t n : ℕ) (b : List ℕ) (s : Slot) → send_says p w q i t b ≡ stored_as (message n) s →
     Sender (queue_at p q) i × (number (queue_at p q) i (running_job (queue_at p q) i t) ≡ n)
     × (release_of (queue_at p q) i (running_job (queue_at p q) i t) ≤ t) × (t < deadline_of (queue_at p q) i (running_job (queue_at p q) i t))
 sent_by_its_job p w q i t n b s e = go (accepted_as e) (step p w (send q i t b))

@@ -1,19 +1,19 @@
 -- One call, by what it comes to. Every later proof goes by this list of cases and never looks at the tests again.
 -- It leans on Verdicts: a call is accepted exactly when its lines pass.
-use Rattle.std.specs.Prelude.{◌≤◌, ◌<◌, ◌&&◌, ◌⊎◌, ◌≡◌}
+use Rattle.std.specs.Prelude.{◌≤◌, ◌<◌, ◌&&◌, ◌⊎◌, ◌≡◌, Result, Ok, Err}
 use Rattle.common.specs.Words.{ℕ, Bool, true, false, cond, true≢false, List, [], inl, inr, ⊎_elim, refl, sym, ap, subst, ◌∙◌, eqb, lt-ltb}
 use Rattle.common.specs.Words.{le-ltb}
 use Rattle.common.specs.Tests.{lt_or_le}
 use Rattle.model.specs.Model.{last, sender_of}
 use Rattle.calendar.specs.Calendar.{message, slot}
-use Rattle.history.specs.Types.{Slot, Number, State, Plan, Refusal, Sent, Received}
+use Rattle.history.specs.Types.{State, Plan, Refusal, Stored, Received}
 use Rattle.plan.specs.Refusals.{Line}
 use Rattle.plan.specs.Limits.{last_tick, payload_bytes}
 use Rattle.plan.specs.Plan.{queue_at}
 use Rattle.slots.specs.Slots.{number_in, stored}
 use Rattle.running.specs.Calls as running
 use Rattle.mailbox.specs.Calls.{unsent_at, send_lines, receive_lines, found, receive_state, stepped_on, running_number, receiving_job, next_number}
-use Rattle.mailbox.specs.Calls.{slot_in, slot_for}
+use Rattle.mailbox.specs.Calls.{slot_in, slot_for, stored_as}
 use Rattle.mailbox.specs.Outcomes.{sent_state, read_past, moved_to, state_clear}
 use Rattle.mailbox.specs.Refused.{send_keeps}
 use Rattle.plan.specs.Verdicts.{Passed, Stopped, passed_good, passed_clear, stopped_refused, passed_or_stopped}
@@ -58,9 +58,9 @@ module _ (p : Plan) (w : World) where
   -- ## The answers
 
   pub send_stores : (q i t : ℕ) (payload : List ℕ) → CanSend p w q i t payload →
-      send_says p w q i t payload ≡ Sent.Stored (message (number_at q i t)) (slot (slot_in p q (number_at q i t)))
+      send_says p w q i t payload ≡ stored_as (message (number_at q i t)) (slot (slot_in p q (number_at q i t)))
   unfolding running.send_answer
-  send_stores q i t payload h = passed_good (send_lines w.state p w.memory q i t payload) Sent.Refused _ (send_passes h)
+  send_stores q i t payload h = passed_good (send_lines w.state p w.memory q i t payload) Err _ (send_passes h)
 
   pub receive_finds : (q t : ℕ) → CanReceive p w q t → next q t ≤ last_at q t → receive_says p w q t ≡ found p w.memory q (next q t)
   unfolding running.look
@@ -92,12 +92,12 @@ pub data Step (p : Plan) (w : World) : Call → World → Type 0 where
 
 -- ## Every call is one of these
 
-stored_or_refused : (n : Number) (s : Slot) (r : Refusal) → Sent.Stored n s ≡ Sent.Refused r → ⊥
-stored_or_refused n s r e = true≢false (ap is_stored e)
+stored_or_refused : (s : Stored) (r : Refusal) → Ok s ≡ Err r → ⊥
+stored_or_refused s r e = true≢false (ap is_stored e)
   where
-    is_stored : Sent → Bool
-    is_stored (Sent.Stored n s) = true
-    is_stored (Sent.Refused r) = false
+    is_stored : Result Stored Refusal → Bool
+    is_stored (Ok s) = true
+    is_stored (Err r) = false
 
 neither_arm : {A : Type 0} (b : Bool) (x : A) → cond b x x ≡ x
 neither_arm true x = refl
@@ -130,14 +130,14 @@ module _ (p : Plan) (w : World) where
           let can : CanSend p w q i t payload = send_passed w.state.tick.0 (unsent_at w.state q i) p w.memory q i t payload h in
           subst (λ (x : World). Step p w (send q i t payload) x) (sym (after_send q i t payload can)) (sends can)
       go (inr h) =
-          let e : send_says p w q i t payload ≡ Sent.Refused h.0 = stopped_refused lines h.0 Sent.Refused _ h.1 in
+          let e : send_says p w q i t payload ≡ Err h.0 = stopped_refused lines h.0 Err _ h.1 in
           let k = send_keeps w.state p w.memory q i t payload h.0 e in
           subst (λ (x : World). Step p w (send q i t payload) x) (sym (leaves k.0 k.1))
           (stays (record { no_send = silent h.0 e; no_reading = λ filler q k. refl }))
         where
-          silent : (r : Refusal) → send_says p w q i t payload ≡ Sent.Refused r → (q' n : ℕ) (payload' : List ℕ) →
+          silent : (r : Refusal) → send_says p w q i t payload ≡ Err r → (q' n : ℕ) (payload' : List ℕ) →
               Sends p w (send q i t payload) q' n payload' → ⊥
-          silent r e q' n payload' (accepted_as d) = stored_or_refused _ _ r (sym d ∙ e)
+          silent r e q' n payload' (accepted_as d) = stored_or_refused _ r (sym d ∙ e)
 
   -- a receive that comes to number n, whether its slot holds n or not
   found_read : (s : State) (q t n : ℕ) → stepped_on s q t (found p w.memory q n) ≡ read_past s q t n

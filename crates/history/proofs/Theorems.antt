@@ -13,11 +13,11 @@
 use Rattle.std.specs.Prelude.{◌-◌, ◌*◌, ◌≤◌, ◌<◌, ◌∷◌, ◌++◌, ◌↔◌, ◌≡◌}
 use Rattle.common.specs.Words.{ℕ, List, subst, length, drop}
 use Rattle.calendar.specs.Calendar.{message, slot}
-use Rattle.history.specs.Types.{Slot, Plan, Sent, Received}
+use Rattle.history.specs.Types.{Slot, Plan, Received}
 use Rattle.model.specs.Model.{Sender, receiver_period, release_of, deadline_of, number, first, last, sender_of, job_of}
 use Rattle.plan.specs.Limits.{last_tick, payload_bytes, slot_bytes}
 use Rattle.plan.specs.Plan.{queue_at, size_at, slots_of}
-use Rattle.mailbox.specs.Calls.{running_job, receiving_job, slot_for}
+use Rattle.mailbox.specs.Calls.{running_job, receiving_job, slot_for, stored_as}
 use Rattle.running.specs.View.{view_of}
 use Rattle.history.specs.History.{Call, receive, World, History, start, ◌then◌, ◌⊑◌, Begins, world, after, send_says, receive_says, history}
 use Rattle.history.specs.History.{go_on, Sends, SentIn, Tells, read_by, numbers, window_numbers, AllFair, Among, ReadToEnd, AcceptedCall}
@@ -62,7 +62,7 @@ module _ {p : Plan} (made : Made p) {m : List ℕ} (begins : Begins p m) where
 
   -- Message n is its job's: whoever's send is accepted as message n is n's sender, and sends in the job that has the number n.
   pub sent_by_its_job : (H : History) (q i t n : ℕ) (b : List ℕ) (s : Slot) →
-      send_says p (world p m H) q i t b ≡ Sent.Stored (message n) s →
+      send_says p (world p m H) q i t b ≡ stored_as (message n) s →
       Sender (queue_at p q) i × (number (queue_at p q) i (running_job (queue_at p q) i t) ≡ n)
       × (release_of (queue_at p q) i (running_job (queue_at p q) i t) ≤ t) × (t < deadline_of (queue_at p q) i (running_job (queue_at p q) i t))
   sent_by_its_job H = Reading.sent_by_its_job p (world p m H)

@@ -2,14 +2,15 @@
 -- answered. Every answer, state and memory here is the one that the contracts of start, send, receive and view cite.
 -- A history begins with one accepted start, `Begins p m`, and has none after it. It grows at its end, so a statement over
 -- every history is one over every call of every sequence of calls.
-use Rattle.std.specs.Prelude.{◌-◌, ◌&&◌, ◌∷◌, ◌++◌, ◌⊎◌, ◌≡◌}
+use Rattle.std.specs.Prelude.{◌-◌, ◌&&◌, ◌∷◌, ◌++◌, ◌⊎◌, ◌≡◌, Result}
 use Rattle.common.specs.Words.{ℕ, zero, suc, cond, List, [], eqb}
 use Rattle.calendar.specs.Calendar.{message, slot}
-use Rattle.history.specs.Types.{Slot, Plan, State, Started, Sent, Received}
+use Rattle.history.specs.Types.{Slot, Plan, Refusal, clear, State, Stored, Received}
 use Rattle.model.specs.Model.{Queue, first, last, sender_of}
 use Rattle.plan.specs.Limits.{last_tick}
 use Rattle.plan.specs.Plan.{queue_at}
 use Rattle.mailbox.specs.Calls.{fresh, start_answer, start_memory, send_answer, send_state, send_memory, look, receive_state, receiving_job, slot_for}
+use Rattle.mailbox.specs.Calls.{stored_as}
 use Rattle.running.specs.View.{view_of}
 
 -- ## Calls
@@ -30,12 +31,12 @@ pub record World : Type 0 where
 
 -- A start on plan p and memory m is accepted, whatever bytes lie in the memory.
 pub record Begins (p : Plan) (m : List ℕ) : Type 0 where
-  pub ready : start_answer p m ≡ Started.Ready
+  pub ready : start_answer p m ≡ clear
 
 abbrev pub begun : Plan → List ℕ → World
 begun p m = record { state = fresh; memory = start_memory p m }
 
-abbrev pub send_says : Plan → World → ℕ → ℕ → ℕ → List ℕ → Sent
+abbrev pub send_says : Plan → World → ℕ → ℕ → ℕ → List ℕ → Result Stored Refusal
 send_says p w q i t payload = send_answer w.state p w.memory q i t payload
 
 abbrev pub receive_says : Plan → World → ℕ → ℕ → Received
@@ -83,7 +84,7 @@ history cs = go_on start cs
 
 -- the call is a send on queue q of this payload, and it is accepted as message n
 pub data Sends (p : Plan) (w : World) : Call → ℕ → ℕ → List ℕ → Type 0 where
-  accepted_as : {q i t n : ℕ} {payload : List ℕ} {s : Slot} → send_says p w q i t payload ≡ Sent.Stored (message n) s →
+  accepted_as : {q i t n : ℕ} {payload : List ℕ} {s : Slot} → send_says p w q i t payload ≡ stored_as (message n) s →
       Sends p w (send q i t payload) q n payload
 
 -- somewhere in the history a send on queue q of this payload was accepted as message n
@@ -173,7 +174,7 @@ pub record ReadToEnd (p : Plan) (m : List ℕ) (H : History) (q k : ℕ) : Type 
 
 -- a send or a receive that is not refused
 pub data AcceptedCall (p : Plan) (w : World) : Call → Type 0 where
-  stores : {q i t n : ℕ} {payload : List ℕ} {s : Slot} → send_says p w q i t payload ≡ Sent.Stored (message n) s →
+  stores : {q i t n : ℕ} {payload : List ℕ} {s : Slot} → send_says p w q i t payload ≡ stored_as (message n) s →
       AcceptedCall p w (send q i t payload)
   tells : {q t n : ℕ} → Tells (receive_says p w q t) n → AcceptedCall p w (receive q t)
   empty : {q t : ℕ} → receive_says p w q t ≡ Received.Empty → AcceptedCall p w (receive q t)

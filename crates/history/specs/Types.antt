@@ -2,8 +2,8 @@
 pub use Rattle.calendar.specs.declared.Number.{Number}
 pub use Rattle.calendar.specs.declared.Slot.{Slot}
 pub use Rattle.plan.specs.declared.Plan.{Plan}
+pub use Rattle.plan.specs.Refusals.{clear}
 pub use Rattle.plan.specs.declared.refusal.Refusal.{Refusal}
 pub use Rattle.running.specs.declared.Received.{Received}
-pub use Rattle.running.specs.declared.Sent.{Sent}
-pub use Rattle.running.specs.declared.Started.{Started}
+pub use Rattle.running.specs.declared.Stored.{Stored}
 pub use Rattle.mailbox.specs.declared.State.{State}

@@ -1,26 +1,24 @@
 -- Laws of an import: what a sound text's import is, rule 1 for a text that is too large, zeros where there is no table or no plan, and that the
 -- contract determines the outcome.
-use Rattle.std.specs.Prelude.{◌<◌, ◌⊎◌, ◌≡◌}
-use Rattle.common.specs.Words.{ℕ, arith, Bool, true, false, cond, List, inl, inr, refl, ap, ◌∙◌, eqb}
+use Rattle.std.specs.Prelude.{◌<◌, ◌⊎◌, ◌≡◌, Ok, Err, Option, None, Some}
+use Rattle.common.specs.Words.{ℕ, arith, Bool, true, false, List, inl, inr, refl, ap, ◌∙◌}
 use Rattle.common.specs.Tests.{true_or_false}
 use Rattle.plan.specs.Facts.{counts_iff}
 use Rattle.plan.specs.Limits.{task_limit, queue_limit}
 use Rattle.plan.specs.Plan.{zeros}
-use Rattle.plan.specs.Refusals.{unnamed}
+use Rattle.plan.specs.Refusals.{unnamed, Verdict, clear}
 use Rattle.plan.specs.Rules.{counts_good}
 use Rattle.plan.specs.Square.{square_of}
 use Rattle.plan.specs.declared.refusal.Rule.TheVariants.{TaskOrQueueCount}
 use Rattle.planning.specs.AcceptedPlan.{Made, accepted_made}
 use Rattle.planning.specs.Planning.{refused_plan, plan_of}
-use Rattle.planning.specs.declared.Answer.{Answer as PlanningAnswer}
-use Rattle.steps.specs.declared.Fault.{Fault}
+use Rattle.steps.specs.declared.faults.Fault.{Fault}
 use Rattle.findings.specs.declared.Table.{Table}
-use Rattle.findings.specs.Findings.{no_table, answered}
-use Rattle.reader.specs.Reader.{refusal, answer_by, answer_plain, read_of, answer}
-use Rattle.findings.specs.declared.Answer.{Answer as ReaderAnswer}
-use Rattle.findings.specs.declared.Read.{Read}
-use Rattle.tableplans.specs.TablePlans.{planned, planning_says, with_plan, unplanned, import_by}
-use Rattle.tableplans.specs.declared.Answer.{Answer}
+use Rattle.findings.specs.Findings.{Answer as ReaderAnswer, sound, no_table}
+use Rattle.reader.specs.Reader.{answer_by, answer_plain, read_of, answer}
+use Rattle.findings.specs.declared.Problem.{Problem as ReaderProblem}
+use Rattle.tableplans.specs.TablePlans.{accepted, planned, planning_says, with_plan, unplanned, import_by}
+use Rattle.tableplans.specs.declared.Problem.{Problem}
 use Rattle.imports.specs.Imports.{import_of}
 
 -- ## A sound text
@@ -44,69 +42,62 @@ over_refused : (t : Table) → Over t.tasks t.queues → planned t ≡ refused_p
 unfolding planned plan_of
 over_refused t h = rw (over_bad t.tasks t.queues h)
 
-module _ (room : Bool) (text : List ℕ) (sound : (answer room text).answer ≡ ReaderAnswer.Sound) where
+module _ (room : Bool) (text : List ℕ) (is_sound : (answer room text).answer ≡ sound) where
   abbrev T : Table
   T = (answer room text).table
 
   -- "The imported table goes through planning as any other"
   pub sound_planned : import_of room text ≡ with_plan T (planned T)
   unfolding import_of import_by
-  sound_planned = rw sound
+  sound_planned = rw is_sound
 
-  over_one : Over T.tasks T.queues → import_of room text ≡ unplanned (Answer.TableRefused (unnamed TaskOrQueueCount)) T
+  over_one : Over T.tasks T.queues → import_of room text ≡ unplanned (Problem.TableRefused (unnamed TaskOrQueueCount)) T
   over_one h = sound_planned ∙ ap (with_plan T) (over_refused T h)
 
   -- "a sound text of over 16 threads or 8 queues gets 1"
-  pub too_many_threads : 16 < T.tasks → import_of room text ≡ unplanned (Answer.TableRefused (unnamed TaskOrQueueCount)) T
+  pub too_many_threads : 16 < T.tasks → import_of room text ≡ unplanned (Problem.TableRefused (unnamed TaskOrQueueCount)) T
   too_many_threads h = over_one (inl h)
 
-  pub too_many_queues : 8 < T.queues → import_of room text ≡ unplanned (Answer.TableRefused (unnamed TaskOrQueueCount)) T
+  pub too_many_queues : 8 < T.queues → import_of room text ≡ unplanned (Problem.TableRefused (unnamed TaskOrQueueCount)) T
   too_many_queues h = over_one (inr h)
 
 -- ## The plan of an accepted text is one that planning made
 
-planning_accepted : (a : PlanningAnswer) → planning_says a ≡ Answer.Accepted → a ≡ PlanningAnswer.Accepted
-planning_accepted PlanningAnswer.Accepted e = refl
-planning_accepted (PlanningAnswer.Refused r) e = absurd (let z : ◌≡◌ {A = ℕ} 0 1 = cc in omega arith)
+planning_accepted : (a : Verdict) → planning_says a ≡ accepted → a ≡ clear
+planning_accepted (Ok x) e = refl
+planning_accepted (Err r) e = absurd (cc)
 
-made_by : (a : ReaderAnswer) (t : Table) → (import_by a t).answer ≡ Answer.Accepted → Made (import_by a t).plan
+made_by : (a : ReaderAnswer) (t : Table) → (import_by a t).answer ≡ accepted → Made (import_by a t).plan
 unfolding import_by planned
-made_by ReaderAnswer.Sound t e =
+made_by (Ok x) t e =
     accepted_made t.tasks t.queues t.period t.deadline t.priority t.receiver (square_of t.sends) (planning_accepted _ e)
-made_by (ReaderAnswer.Refused r) t e = absurd (let z : ◌≡◌ {A = ℕ} 0 1 = cc in omega arith)
-made_by ReaderAnswer.NoRoom t e = absurd (let z : ◌≡◌ {A = ℕ} 0 1 = cc in omega arith)
+made_by (Err (ReaderProblem.Refused r)) t e = absurd (cc)
+made_by (Err ReaderProblem.NoRoom) t e = absurd (cc)
 
-pub import_made : (room : Bool) (text : List ℕ) → (import_of room text).answer ≡ Answer.Accepted → Made (import_of room text).plan
+pub import_made : (room : Bool) (text : List ℕ) → (import_of room text).answer ≡ accepted → Made (import_of room text).plan
 unfolding import_of
 import_made room text e = made_by (answer room text).answer (answer room text).table e
 
 -- ## Any other text
 
-no_table_by : (f : Fault) (t : Table) → ((answer_by f t).answer ≡ ReaderAnswer.Sound → ⊥) → (answer_by f t).table ≡ no_table
+no_table_by : (f : Option Fault) (t : Table) → ((answer_by f t).answer ≡ sound → ⊥) → (answer_by f t).table ≡ no_table
 unfolding answer_by
-no_table_by f t h = go (eqb f.number 0) h
-  where
-    by : Bool → Read
-    by b = cond b (answered ReaderAnswer.Sound t) (answered (ReaderAnswer.Refused (refusal f)) no_table)
+no_table_by None t h = absurd (h refl)
+no_table_by (Some f) t h = refl
 
-    go : (b : Bool) → ((by b).answer ≡ ReaderAnswer.Sound → ⊥) → (by b).table ≡ no_table
-    go true h = absurd (h refl)
-    go false h = refl
-
-no_table_lem : (room : Bool) (text : List ℕ) → ((answer room text).answer ≡ ReaderAnswer.Sound → ⊥) →
-    (answer room text).table ≡ no_table
+no_table_lem : (room : Bool) (text : List ℕ) → ((answer room text).answer ≡ sound → ⊥) → (answer room text).table ≡ no_table
 unfolding answer read_of answer_plain
 no_table_lem true text h = no_table_by _ _ h
 no_table_lem false text h = refl
 
-no_plan : (a : ReaderAnswer) (t : Table) → (a ≡ ReaderAnswer.Sound → ⊥) → ((import_by a t).table ≡ t) × ((import_by a t).plan ≡ zeros)
+no_plan : (a : ReaderAnswer) (t : Table) → (a ≡ sound → ⊥) → ((import_by a t).table ≡ t) × ((import_by a t).plan ≡ zeros)
 unfolding import_by
-no_plan ReaderAnswer.Sound t h = absurd (h refl)
-no_plan (ReaderAnswer.Refused r) t h = (refl, refl)
-no_plan ReaderAnswer.NoRoom t h = (refl, refl)
+no_plan (Ok x) t h = absurd (h refl)
+no_plan (Err (ReaderProblem.Refused r)) t h = (refl, refl)
+no_plan (Err ReaderProblem.NoRoom) t h = (refl, refl)
 
 -- a text that is not sound has the table and the plan of all zeros
-pub unsound_zeros : (room : Bool) (text : List ℕ) → ((answer room text).answer ≡ ReaderAnswer.Sound → ⊥) →
+pub unsound_zeros : (room : Bool) (text : List ℕ) → ((answer room text).answer ≡ sound → ⊥) →
     ((import_of room text).table ≡ no_table) × ((import_of room text).plan ≡ zeros)
 unfolding import_of
 unsound_zeros room text h = let z = no_plan _ (answer room text).table h in (z.0 ∙ no_table_lem room text h, z.1)

@@ -9,6 +9,7 @@ use reader::read_table;
 use tableplans::{Import, import_by};
 
 // The table and the plan of a text. What the lent memory holds afterwards means nothing.
+#[tactic(auto, unfolding(crate::specs::Imports::import_of))]
 pub fn plan_text(
     text: &[u8],
     plain: &mut [u8],

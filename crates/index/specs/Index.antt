@@ -20,6 +20,10 @@ row_at m k = part m (row_words * k) row_words
 abbrev pub column : Row → ℕ → ℕ
 column row c = get_or row c 0
 
+-- a number of row k of these
+abbrev pub cell : List Row → ℕ → ℕ → ℕ
+cell rows k c = column (get_or rows k []) c
+
 -- ## Keys of a row
 
 -- the sorts of keys that are no row's own: connections that are alike, and queues

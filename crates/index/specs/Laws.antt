@@ -1,5 +1,5 @@
 -- Laws of rows in memory and of their keys, and how a dictionary grows row by row.
-use Rattle.std.specs.Prelude.{◌+◌, ◌-◌, ◌*◌, ◌/◌, ◌%◌, ◌<◌, ◌≤◌, ◌∷◌, ◌++◌, ◌≡◌}
+use Rattle.std.specs.Prelude.{IfSome, ◌+◌, ◌-◌, ◌*◌, ◌/◌, ◌%◌, ◌<◌, ◌≤◌, ◌∷◌, ◌++◌, ◌≡◌}
 use Rattle.common.specs.Words.{ℕ, zero, suc, arith, true, false, List, [], refl, sym, ap, ◌∙◌, length, take, drop, drop-drop, get_or}
 use Rattle.common.specs.Words.{get_or-take, get_or-drop, set, length-set, get_or-set_same, get_or-set_other}
 use Rattle.rows.specs.Rows.{Row, row_words}
@@ -7,6 +7,7 @@ use Rattle.keys.specs.Keys.{Meaning, meant, same_meaning}
 use Rattle.index.specs.Found.{found, found_le, found_at, found_first}
 use Rattle.index.specs.Trees.{nothing, walk, Left, left_here, left_on, entered}
 use Rattle.index.specs.Growing.{sound_none, entered_length, enter_sound}
+use Rattle.index.specs.Options.{row_of, row_within}
 use Rattle.index.specs.Index.{rows_in, row_at, column, key_by, keys_of, Indexed, most_rows}
 
 -- ## Rows in memory
@@ -74,6 +75,11 @@ pub key_in : (p : List ℕ) (role n : ℕ) (m : List ℕ) (k : ℕ) → k < n �
     get_or (keys_of p role (rows_in n m)) k nothing ≡ meant p (key_by role (row_at m k))
 key_in p role n m k l =
     key_of p role (rows_in n m) k (omega (arith, rows_length n m)) ∙ ap (λ (row : Row). meant p (key_by role row)) (row_in n m k l)
+
+pub found_within : (p : List ℕ) (role n : ℕ) (m : List ℕ) (k : Meaning) →
+    IfSome (row_of (found k (keys_of p role (rows_in n m)))) (λ i. i < n)
+found_within p role n m k =
+    row_within (found k (keys_of p role (rows_in n m))) (omega (arith, found_le k (keys_of p role (rows_in n m)), keys_length p role n m))
 
 -- a key that is found is the key of a row, and it is found at the first row that has it
 pub found_row : (p : List ℕ) (role n : ℕ) (m : List ℕ) (k : Meaning) (i : ℕ) → found k (keys_of p role (rows_in n m)) ≡ suc i →

@@ -5,3 +5,6 @@ pub mod Growing
 pub mod Index
 pub mod Laws
 pub mod Keyed
+pub mod Held
+pub mod Props
+pub mod Options

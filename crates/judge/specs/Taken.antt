@@ -1,5 +1,5 @@
 -- What holds of a running call exactly when no line of the table refuses it, in plain facts.
-use Rattle.std.specs.Prelude.{◌+◌, ◌-◌, ◌*◌, ◌<◌, ◌≤◌, ◌||◌, ◌∷◌, ◌≡◌}
+use Rattle.std.specs.Prelude.{◌+◌, ◌-◌, ◌*◌, ◌<◌, ◌≤◌, ◌||◌, ◌≡◌}
 use Rattle.common.specs.Words.{ℕ, arith, Bool, true, false, not, List, refl, sym, ◌∙◌, ltb, eqb, length, get_or, ltb-true, ltb-false}
 use Rattle.common.specs.Words.{leb-false, eqb-true, not-false, le-ltb, lt-ltb, lt-leb, eq-eqb}
 use Rattle.common.specs.Tests.{passed}
@@ -10,15 +10,12 @@ use Rattle.model.proofs.Outdating.{wanted_fits}
 use Rattle.plan.specs.Limits.{task_limit, queue_limit, longest_period, most_slots, last_tick, payload_bytes, slot_bytes}
 use Rattle.plan.specs.Plan.{queue_at, size_at, place_at, slots_of, Usable}
 use Rattle.plan.specs.Facts.{connected_iff}
-use Rattle.plan.specs.Refusals.{Line, ◌gives◌, unnamed}
 use Rattle.plan.specs.Rules.{sound_plan, connected}
 use Rattle.plan.specs.Sound.{Sound, sound_iff, usable}
-use Rattle.plan.specs.Verdicts.{verdict, Passed, clear_passed}
+use Rattle.plan.specs.Verdicts.{Verdict, clear, verdict, Passed, clear_passed}
 use Rattle.plan.specs.declared.Plan.{Plan}
-use Rattle.plan.specs.declared.refusal.Rule.TheVariants.{ShortMemory}
-use Rattle.plan.specs.declared.refusal.Verdict.{Verdict}
 use Rattle.timing.specs.Timing.{running_lines}
-use Rattle.judge.specs.Lines.{ground_lines, start_lines, send_lines, receive_lines, running_job, running_deadline, receiving_job}
+use Rattle.judge.specs.Lines.{start_lines, send_lines, receive_lines, running_job, running_deadline, receiving_job}
 
 -- the two parts of a test that failed
 or_left : (a b : Bool) → (a || b) ≡ false → a ≡ false
@@ -42,23 +39,17 @@ pub slots_fit : {p : Plan} → Sound p →
     (1 ≤ p.queues) × (p.queues ≤ queue_limit) × (place_at p (p.queues - 1) + size_at p (p.queues - 1) ≤ most_slots)
 slots_fit s = (s.checked.some_queue, s.checked.queues_fit, omega (arith, slots_end s, s.total_fits))
 
--- and what `short` then leaves of the lines
-pub eight : (p : Plan) → sound_plan p ≡ true → (m : List ℕ) {b : Bool} →
-    b ≡ ltb (length m) ((place_at p (p.queues - 1) + size_at p (p.queues - 1)) * slot_bytes) → (rest : List Line) →
-    verdict (ground_lines p m rest) ≡ verdict (b gives unnamed ShortMemory ∷ rest)
-eight p h m e rest = rw (h, ← slots_end ((sound_iff p).0 h), e)
-
 -- a usable queue's receiver
 pub receiver_fits : {p : Plan} {q : ℕ} → Usable p q → (1 ≤ receiver_period (queue_at p q)) × (wanted_for (queue_at p q) ≤ longest_period)
 receiver_fits {p} {q} u =
     let r = u.valid.receiver_row in
     (period_pos (queue_at p q) u.valid _ r, omega (arith, wanted_fits (queue_at p q) u.valid, u.periods_fit _ r))
 
--- and its senders, each with its row of the two columns
-abbrev pub SenderFits : List ℕ → List ℕ → ℕ → Type 0
-SenderFits period deadline i = (i < task_limit) × ((1 ≤ get_or period i 0) × (get_or deadline i 0 ≤ longest_period))
+-- and its senders
+abbrev pub SenderFits : Plan → ℕ → Type 0
+SenderFits p i = (i < task_limit) × ((1 ≤ get_or p.period i 0) × (get_or p.deadline i 0 ≤ longest_period))
 
-pub sender_fits : {p : Plan} {q i : ℕ} → Usable p q → Sender (queue_at p q) i → SenderFits p.period p.deadline i
+pub sender_fits : {p : Plan} {q i : ℕ} → Usable p q → Sender (queue_at p q) i → SenderFits p i
 sender_fits {p} {q} {i} u s =
     let l = s.row in (
       omega (arith, u.tasks_fit),
@@ -70,7 +61,7 @@ sender_fits {p} {q} {i} u s =
 
 -- where rule 9 was tested and did not apply
 pub connected_fits : (p : Plan) → sound_plan p ≡ true → (q i : ℕ) {a : Bool} → a ≡ connected p q i → not a ≡ false →
-    SenderFits p.period p.deadline i
+    SenderFits p i
 connected_fits p s q i e h =
     let x = (connected_iff p q i).0 (passed e h) in sender_fits (usable ((sound_iff p).0 s) q x.0) x.1
 
@@ -94,8 +85,11 @@ seven : {p : Plan} {m : List ℕ} → Ground p m → not (sound_plan p) ≡ fals
 seven {p} g = rw ((sound_iff p).1 g.sound)
 
 -- from a verdict v that was made of the lines and told to be clear, as the code's proofs have it
-pub ground_clear : (p : Plan) (m : List ℕ) {v : Verdict} → v ≡ verdict (start_lines p m) → v ≡ Verdict.Clear → Ground p m
+pub ground_clear : (p : Plan) (m : List ℕ) {v : Verdict} → v ≡ verdict (start_lines p m) → v ≡ clear → Ground p m
 ground_clear p m e h = ground_passed p m (clear_passed (start_lines p m) (sym e ∙ h))
+
+pub start_sound : (p : Plan) (m : List ℕ) {v : Verdict} → v ≡ verdict (start_lines p m) → v ≡ clear → sound_plan p ≡ true
+start_sound p m e h = (sound_iff p).1 (ground_clear p m e h).sound
 
 -- ## Send
 
@@ -142,7 +136,7 @@ send_passes {before} {unsent} {p} {m} {q} {i} {t} {payload} h =
     (seven h.ground, (le-ltb _ _ h.ground.room, (fourteen, (nine, lines))))
 
 pub send_taken : (before unsent : ℕ) (p : Plan) (m : List ℕ) (q i t : ℕ) (payload : List ℕ) {v : Verdict} →
-    v ≡ verdict (send_lines before unsent p m q i t payload) → v ≡ Verdict.Clear → SendTaken before unsent p m q i t payload
+    v ≡ verdict (send_lines before unsent p m q i t payload) → v ≡ clear → SendTaken before unsent p m q i t payload
 send_taken before unsent p m q i t payload e f =
     send_passed before unsent p m q i t payload (clear_passed (send_lines before unsent p m q i t payload) (sym e ∙ f))
 
@@ -177,5 +171,5 @@ receive_passes {before} {p} {m} {q} {t} h =
     )
 
 pub receive_taken : (before : ℕ) (p : Plan) (m : List ℕ) (q t : ℕ) {v : Verdict} →
-    v ≡ verdict (receive_lines before p m q t) → v ≡ Verdict.Clear → ReceiveTaken before p m q t
+    v ≡ verdict (receive_lines before p m q t) → v ≡ clear → ReceiveTaken before p m q t
 receive_taken before p m q t e f = receive_passed before p m q t (clear_passed (receive_lines before p m q t) (sym e ∙ f))

@@ -18,6 +18,17 @@ pub struct Key {
     pub third: usize,
 }
 
+impl Key {
+    // The key of no row, which others are made from.
+    pub const NONE: Key = Key {
+        sort: 0,
+        within: 0,
+        first: 0,
+        second: 0,
+        third: 0,
+    };
+}
+
 // A hash that grows with each number: two lanes.
 #[derive(Clone, Copy)]
 struct Lanes {
@@ -34,25 +45,14 @@ const LOW_FACTOR: usize = 742_938_285;
 const HIGH_FACTOR: usize = 950_706_376;
 
 // A byte that can stand in a name, 0 for any other.
+#[tactic(auto, using(common::specs::Tests::tests), unfolding(crate::specs::Keys::name_byte, tokens::specs::Tokens::sort_of))]
 fn name_byte(b: u8) -> u8
     ensures { result ≡ name_byte b }
 {
-    if b < b'0' {
-        return 0;
+    match b {
+        b'0'..=b'9' | b'_' | b'a'..=b'z' => b,
+        _ => 0,
     }
-    if b <= b'9' {
-        return b;
-    }
-    if b == b'_' {
-        return b;
-    }
-    if b < b'a' {
-        return 0;
-    }
-    if b <= b'z' {
-        return b;
-    }
-    0
 }
 
 // The byte of a name at a place, 0 where none stands.
@@ -62,7 +62,8 @@ fn letter_at(text: &[u8], at: usize) -> u8
     name_byte(byte_at(text, at))
 }
 
-// Whether two names are spelled alike: no more is read than what they begin with in common and a byte more.
+// Whether two names are spelled alike: no more is read than what they begin with in common and a byte more. The two places are counted by
+// hand: each of the names may come to the text's end first, and a zip of them would stop there without the other's next byte.
 fn same_name(text: &[u8], a: usize, b: usize) -> bool
     ensures { result ≡ same (spelled text.now a) (spelled text.now b) }
 {
@@ -86,22 +87,15 @@ fn same_name(text: &[u8], a: usize, b: usize) -> bool
 }
 
 // Whether two keys are the same. Numbers are compared first, they cost least.
+#[tactic(auto, using(common::specs::Tests::tests), unfolding(crate::specs::Keys::meant, crate::specs::Keys::same_meaning))]
 pub fn same_key(text: &[u8], a: Key, b: Key) -> bool
     ensures { result ≡ same_meaning (meant text.now a) (meant text.now b) }
 {
-    if a.sort != b.sort {
-        return false;
-    }
-    if a.within != b.within {
-        return false;
-    }
-    if !same_name(text, a.first, b.first) {
-        return false;
-    }
-    if !same_name(text, a.second, b.second) {
-        return false;
-    }
-    same_name(text, a.third, b.third)
+    a.sort == b.sort
+        && a.within == b.within
+        && same_name(text, a.first, b.first)
+        && same_name(text, a.second, b.second)
+        && same_name(text, a.third, b.third)
 }
 
 // One lane with one number more. It is squared: a lane that were a sum over the bytes could be shared by reckoning.
@@ -114,33 +108,33 @@ fn turn(own: usize, other: usize, n: usize, factor: usize) -> usize
     (x * x + more) % PRIME
 }
 
-// Both lanes with one number more. Each takes in the other: names that share one lane would soon share another that runs by itself.
-fn stir(lanes: Lanes, n: usize) -> Lanes
-    requires { Below lanes }
-    ensures { (result ≡ stirred lanes n) × Below result }
-{
-    Lanes {
-        low: turn(lanes.low, lanes.high, n, LOW_FACTOR),
-        high: turn(lanes.high, lanes.low, n, HIGH_FACTOR),
-    }
-}
-
-// Both lanes with one name more.
-fn stir_name(text: &[u8], at: usize, lanes: Lanes) -> Lanes
-    requires { Below lanes }
-    ensures { (result ≡ named lanes (spelled text.now at)) × Below result }
-{
-    let mut l = lanes;
-    let mut i = at;
-    while i < text.len() {
-        let byte = name_byte(text[i]);
-        if byte == 0 {
-            return stir(l, 0);
+impl Lanes {
+    // Both lanes with one number more. Each takes in the other: names that share one lane would soon share another that runs by itself.
+    fn stir(self, n: usize) -> Lanes
+        requires { Below self }
+        ensures { (result ≡ stirred self n) × Below result }
+    {
+        Lanes {
+            low: turn(self.low, self.high, n, LOW_FACTOR),
+            high: turn(self.high, self.low, n, HIGH_FACTOR),
         }
-        l = stir(l, wide(byte));
-        i += 1;
     }
-    stir(l, 0)
+
+    // Both lanes with one name more.
+    fn stir_name(self, text: &[u8], at: usize) -> Lanes
+        requires { Below self }
+        ensures { (result ≡ named self (spelled text.now at)) × Below result }
+    {
+        let mut lanes = self;
+        for i in at..text.len() {
+            let byte = name_byte(text[i]);
+            if byte == 0 {
+                return lanes.stir(0);
+            }
+            lanes = lanes.stir(wide(byte));
+        }
+        lanes.stir(0)
+    }
 }
 
 // A number for a key, the same for keys that are the same, whose low bits differ for most that are not. By trying, a pair that shares it is
@@ -148,9 +142,10 @@ fn stir_name(text: &[u8], at: usize, lanes: Lanes) -> Lanes
 pub fn hash_of(text: &[u8], key: Key) -> usize
     ensures { result ≡ hash_of (meant text.now key) }
 {
-    let numbers = stir(stir(Lanes { low: 0, high: 0 }, key.sort), key.within);
-    let one = stir_name(text, key.first, numbers);
-    let two = stir_name(text, key.second, one);
-    let all = stir_name(text, key.third, two);
+    let none = Lanes { low: 0, high: 0 };
+    let numbers = none.stir(key.sort).stir(key.within);
+    let one = numbers.stir_name(text, key.first);
+    let two = one.stir_name(text, key.second);
+    let all = two.stir_name(text, key.third);
     all.low + PRIME * all.high
 }

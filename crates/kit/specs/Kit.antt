@@ -1,11 +1,13 @@
 -- AADL.md, section 5: the table. Its numbers are those that planning takes.
 use Rattle.std.specs.Prelude.{◌-◌, ◌/◌, ◌%◌, ◌≤◌, ◌∷◌}
+use Rattle.std.proofs.Props.{props}
 use Rattle.common.specs.Words.{ℕ, suc, Bool, false, not, cond, List, [], eqb, length}
 use Rattle.common.specs.Table.{table}
 use Rattle.keys.specs.Keys.{key}
 use Rattle.rows.specs.Rows.{Row, period_column, deadline_column, priority_column, most_value}
 use Rattle.index.specs.Index.{a_connection}
-use Rattle.ways.specs.Ways.{cell, look, thread_named, property_of}
+use Rattle.index.specs.Index.{cell}
+use Rattle.ways.specs.Ways.{look, thread_named, property_of}
 use Rattle.verdict.specs.Verdict.{none}
 use Rattle.plan.specs.Limits.{task_limit, queue_limit, cell_limit}
 use Rattle.chosen.specs.Chosen.{threads_of, queues_of, held, at_or}
@@ -56,3 +58,6 @@ table_of p rows =
 -- rows of which none has a Priority over 255
 pub record Ranked (rows : List Row) : Type 0 where
   pub low : (k : ℕ) → cell rows k priority_column ≤ most_value
+
+pub ranked_prop : {rows : List Row} → IsProp (Ranked rows)
+ranked_prop = Prim.hlevel props

@@ -4,7 +4,8 @@ use Rattle.common.specs.Words.{ℕ, arith, List, [], eqb, ltb, length, get_or}
 use Rattle.common.specs.Table.{table, table_at}
 use Rattle.tokens.specs.Laws.{cases}
 use Rattle.rows.specs.Rows.{Row, priority_column, most_value}
-use Rattle.ways.specs.Ways.{cell, first_in, property_of}
+use Rattle.index.specs.Index.{cell}
+use Rattle.ways.specs.Ways.{first_in, property_of}
 use Rattle.plan.specs.Limits.{task_limit}
 use Rattle.chosen.specs.Chosen.{threads_of, at_or}
 use Rattle.kit.specs.Kit.{said_by, figure_of, Ranked}

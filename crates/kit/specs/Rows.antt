@@ -10,7 +10,7 @@ use Rattle.rows.specs.Rows.{Row, a_thread, period_column, deadline_column, prior
 use Rattle.index.specs.Found.{found, found_le, found_at, found_first}
 use Rattle.index.specs.Index.{a_connection, key_by, keys_of}
 use Rattle.index.specs.Laws.{keys_of_length, key_of}
-use Rattle.ways.specs.Ways.{cell}
+use Rattle.index.specs.Index.{cell}
 use Rattle.verdict.specs.Verdict.{none}
 use Rattle.plan.specs.Limits.{task_limit, queue_limit, cell_limit}
 use Rattle.chosen.specs.Chosen.{chosen_below, threads_of, queues_of, at_or}

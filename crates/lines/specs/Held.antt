@@ -2,9 +2,11 @@
 -- that the carry and that part make.
 use Rattle.std.specs.Prelude.{◌+◌, ◌-◌, ◌<◌, ◌≤◌, ◌++◌, ◌≡◌}
 use Rattle.common.specs.Words.{ℕ, min, arith, cond, List, ⊎_elim, sym, ap, ◌∙◌, eqb, ltb, length, take, drop, length-append, length-take}
+use Rattle.common.specs.Words.{append_assoc, drop-drop}
 use Rattle.common.specs.Words.{take_all, take-take, take-length, length-take-le, sets, length-sets, sets-eq, take-append-add, take_at, eq-eqb, ne_eqb}
 use Rattle.common.specs.Words.{lt-ltb}
 use Rattle.std.specs.Borrow.{Bor}
+use borrow.Rule.Slice.PartMut.{put_mid}
 use Rattle.common.specs.Tests.{lt_or_le}
 use Rattle.common.specs.Stores.{part}
 use Rattle.lines.specs.Lines.{carry_limit, cut}
@@ -14,6 +16,10 @@ carried_of used xs = min carry_limit (used + length xs)
 
 unfoldable pub held_of : List ℕ → ℕ → List ℕ → List ℕ
 held_of held used xs = sets held used (take (carry_limit - used) xs)
+
+-- the code copies into a part of the buffer
+pub put_sets : (l vs : List ℕ) (i k : ℕ) → k ≡ length vs → i + k ≤ length l → put_mid i k l vs ≡ sets l i vs
+put_sets l vs i k e h = rw (e, sets-eq vs l i (omega arith), append_assoc (take i l) vs (drop (i + length vs) l), drop-drop (length vs) i l)
 
 -- the code counts how many bytes it takes
 pub take_least : (n : ℕ) (xs : List ℕ) → take (min n (length xs)) xs ≡ take n xs

@@ -5,3 +5,4 @@ pub mod Whole
 pub mod Ends
 pub mod Strides
 pub mod Held
+pub mod Carried

@@ -58,6 +58,15 @@ module _ (p : List ℕ) (from : ℕ) where
       (not-true _ (and_right (leb (from + k * stride + stride) (length p)) _ f))
       ∙ passes k (λ j l. h j (omega arith)))
 
+  -- what is passed over lies in the block
+  pub skip_within : from ≤ length p → skip_of p from ≤ length p
+  unfolding skip_of
+  skip_within h = go (first_bad (free_from p from) (length p)) (first_bad_is (free_from p from) (length p)).before
+    where
+      go : (n : ℕ) → ((i : ℕ) → i < n → free_from p from i ≡ true) → from + n * stride ≤ length p
+      go zero f = omega arith
+      go (suc k) f = omega (arith, leb-true (from + k * stride + stride) (length p) (and_left _ _ (f k (omega arith))))
+
   -- the line ends where it did
   pub skip_ends : end_of p (skip_of p from) ≡ end_of p from
   unfolding skip_of

@@ -1,10 +1,9 @@
 // Lines out of blocks. A line that lies inside a block is used where it stands; a line that has not ended is carried over to the next
-// block in a buffer that the caller lends, of which the first `used` bytes are the carry. The console answers every line of over 100
-// bytes in one way, so 101 bytes are kept of a line and the rest is let go.
+// block. The console answers every line of over 100 bytes in one way, so 101 bytes are kept of a line and the rest is let go.
 #![tactic(auto)]
 
 ghost use Rattle.std.specs.Prelude.{◌≡◌, ◌+◌, ◌-◌, ◌≤◌};
-ghost use Rattle.common.specs.Words.{min, length};
+ghost use Rattle.common.specs.Words.{length, replicate};
 ghost use Rattle.common.specs.Stores.{part};
 ghost use Rattle.lines.specs.Lines.{carry_limit};
 ghost use Rattle.lines.specs.Ends.{stride, feed_in, end_of};
@@ -23,9 +22,10 @@ fn near(piece: &[u8], from: usize) -> bool
     requires { from + stride ≤ length piece.now }
     ensures { result ≡ feed_in piece.now from stride }
 {
+    // `any` has a way out
     let mut seen = false;
-    for k in 0..STRIDE {
-        if piece[from + k] == LINE_FEED {
+    for byte in &piece[from..from + STRIDE] {
+        if *byte == LINE_FEED {
             seen = true;
         }
     }
@@ -52,45 +52,63 @@ pub fn end_of(piece: &[u8], from: usize) -> usize
     requires { from ≤ length piece.now }
     ensures { result ≡ end_of piece.now from }
 {
-    let mut i = skip(piece, from);
-    while i < piece.len() {
+    // `position` and `enumerate` count twice, which shows in the time of short lines
+    for i in skip(piece, from)..piece.len() {
         if piece[i] == LINE_FEED {
             return i;
         }
-        i += 1;
     }
-    i
+    piece.len()
 }
 
-fn least(a: usize, b: usize) -> usize
-    ensures { result ≡ min a b }
-{
-    if a < b { a } else { b }
+// The start of a line that has not ended: the first `used` bytes of `held`. What `held` has behind them means nothing.
+#[derive(Drop)]
+pub struct Carry {
+    pub held: [u8; CARRY_LIMIT],
+    pub used: usize,
+    ghost within: { used ≤ carry_limit },
+    ghost room: { carry_limit ≤ length held },
 }
 
-// Puts a part of a line behind the carry, as far as it is kept, and answers the carry's new length.
-pub fn keep(held: &mut [u8], used: usize, xs: &[u8]) -> usize
-    requires { (used ≤ carry_limit) × (carry_limit ≤ length held.old) }
-    ensures { (result ≡ carried_of used xs.now) × (held.new ≡ held_of held.old used xs.now) }
-{
-    let n = least(CARRY_LIMIT - used, xs.len());
-    for k in 0..n {
-        held[used + k] = xs[k];
+impl Carry {
+    // Nothing is carried.
+    pub fn new() -> Carry
+        ensures used { result.used ≡ 0 }
+        ensures held { result.held ≡ replicate carry_limit 0 }
+    {
+        Carry {
+            held: [0; CARRY_LIMIT],
+            used: 0,
+        }
     }
-    used + n
-}
 
-// Where the line that ends at `to` was begun by a carry, puts its part of this block behind the carry; answers how many bytes of the
-// line stand in the buffer then, none where the whole line lies in the block.
-pub fn join(held: &mut [u8], used: usize, piece: &[u8], from: usize, to: usize) -> usize
-    requires { (used ≤ carry_limit) × (carry_limit ≤ length held.old) × (from ≤ to) × (to ≤ length piece.now) }
-    ensures { (result ≡ joined_of used (part piece.now from (to - from)))
-        × (held.new ≡ joined_in held.old used (part piece.now from (to - from))) }
-{
-    if used == 0 {
-        return 0;
+    // Puts a part of a line behind the carry, as far as it is kept.
+    pub fn keep(&mut self, xs: &[u8])
+        ensures used { self.new.used ≡ carried_of self.old.used xs.now }
+        ensures held { self.new.held ≡ held_of self.old.held self.old.used xs.now }
+    {
+        let n = xs.len().min(CARRY_LIMIT - self.used);
+        let end = self.used + n;
+        self.held[self.used..end].copy_from_slice(&xs[..n]);
+        self.used = end;
     }
-    keep(held, used, &piece[from..to])
+
+    // Takes the line that ends at `to` out of the carry. Where the carry began it, its part of this block is put behind the carry; answers
+    // how many bytes of the line stand in `held` then, none where the whole line lies in the block.
+    pub fn join(&mut self, piece: &[u8], from: usize, to: usize) -> usize
+        requires { (from ≤ to) × (to ≤ length piece.now) }
+        ensures joined { result ≡ joined_of self.old.used (part piece.now from (to - from)) }
+        ensures held { self.new.held ≡ joined_in self.old.held self.old.used (part piece.now from (to - from)) }
+        ensures emptied { self.new.used ≡ 0 }
+    {
+        if self.used == 0 {
+            return 0;
+        }
+        self.keep(&piece[from..to]);
+        let n = self.used;
+        self.used = 0;
+        n
+    }
 }
 
 // The line, where it stands.
@@ -101,6 +119,6 @@ pub fn line_of<'a>(held: &'a [u8], n: usize, piece: &'a [u8], from: usize, to: u
     if 0 < n {
         return &held[..n];
     }
-    let end = from + least(CARRY_LIMIT, to - from);
+    let end = from + (to - from).min(CARRY_LIMIT);
     &piece[from..end]
 }

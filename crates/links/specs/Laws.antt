@@ -104,7 +104,7 @@ unfolding link declared
 link_moves p start n ps ts =
     moved_onward _ (declared p start n (On ts))
     (moved_onward _ (quiet (the SEMICOLON)) (moved_onward _ (maybe_block_in of_port) (ends_moves ts) (maybe_block_moves of_port))
-    (moves_quiet (the SEMICOLON) (moves_the SEMICOLON (λ e. omega arith))))
+    (moves_quiet (the SEMICOLON) (moves_the SEMICOLON refl)))
     (moves_optionally (λ us. pointed (sending (On ts)) && pointed (receiving (On ts)))
     (put (linked p start n (On ts))) (moves_put (linked p start n (On ts))))
 

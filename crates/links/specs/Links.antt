@@ -1,4 +1,6 @@
 -- AADL.md, section 2: connections of a process implementation.
+use Rattle.words.specs.Same.{same_kind}
+use Rattle.words.specs.declared.kinds.Kind.{Kind}
 use Rattle.std.specs.Prelude.{◌&&◌, ◌≡◌}
 use Rattle.common.specs.Words.{ℕ, Bool, true, false, cond, List, eqb, get_or}
 use Rattle.words.specs.Words.{is_name}
@@ -29,7 +31,7 @@ abbrev pub port_in : Step → ℕ
 port_in s = (first (s ⟫ name ⟫ the DOT)).start
 
 abbrev pub pointed : Step → Bool
-pointed s = eqb (first_kind (s ⟫ name)) DOT
+pointed s = same_kind (first_kind (s ⟫ name)) DOT
 
 -- "A connection's Timing: from its block; else Delayed where its arrow is `->>`": 1 Delayed, 2 another, 0 not said here
 unfoldable pub timing_by : ℕ → Bool → ℕ
@@ -38,7 +40,7 @@ timing_by in_block delayed = cond (eqb in_block 0) (cond delayed 1 0) in_block
 abbrev pub linked : ℕ → ℕ → ℕ → Step → List ℕ → Row
 linked process start n s qs =
     link_row process n start (first (sending s)).start (port_in (sending s)) (first (receiving s)).start (port_in (receiving s))
-    (timing_by (get_or qs timing 0) (eqb (first_kind (pointing s)) DELAYING))
+    (timing_by (get_or qs timing 0) (same_kind (first_kind (pointing s)) DELAYING))
 
 -- "any other is passed over"
 unfoldable pub declared : ℕ → ℕ → ℕ → Step → Rule
@@ -50,14 +52,14 @@ link process start n ps ts = quiet (λ us. ends (On us)) ps ts ⨟ maybe_block_i
     (On ts)
 
 -- other_kind = "data" "access" | "bus" | "virtual" | "subprogram" | "feature" | "parameter", by its first two words
-unfoldable pub other_kind : ℕ → ℕ → Bool
+unfoldable pub other_kind : Kind → Kind → Bool
 other_kind k l =
-    cond (eqb k DATA) (eqb l ACCESS)
-    (cond (eqb k BUS) true
-    (cond (eqb k VIRTUAL) true
-    (cond (eqb k SUBPROGRAM) true
-    (cond (eqb k FEATURE) true
-    (cond (eqb k PARAMETER) true false)))))
+    cond (same_kind k DATA) (same_kind l ACCESS)
+    (cond (same_kind k BUS) true
+    (cond (same_kind k VIRTUAL) true
+    (cond (same_kind k SUBPROGRAM) true
+    (cond (same_kind k FEATURE) true
+    (cond (same_kind k PARAMETER) true false)))))
 
 -- connection = [ NAME ":" ] ( port_kind .. ";" | other_kind rest )
 unfoldable pub connection_of : ℕ → ℕ → ℕ → Rule
@@ -71,16 +73,16 @@ unfoldable pub connection : ℕ → Rule
 connection process ps ts = quiet maybe_label ps ts ⨟ connection_of process (head ts).start (label_in (On ts))
 
 -- what a connection may begin with
-unfoldable pub connection_kind : ℕ → Bool
+unfoldable pub connection_kind : Kind → Bool
 connection_kind k =
-    cond (eqb k PORT) true
-    (cond (eqb k EVENT) true
-    (cond (eqb k DATA) true
-    (cond (eqb k BUS) true
-    (cond (eqb k VIRTUAL) true
-    (cond (eqb k SUBPROGRAM) true
-    (cond (eqb k FEATURE) true
-    (cond (eqb k PARAMETER) true (is_name k))))))))
+    cond (same_kind k PORT) true
+    (cond (same_kind k EVENT) true
+    (cond (same_kind k DATA) true
+    (cond (same_kind k BUS) true
+    (cond (same_kind k VIRTUAL) true
+    (cond (same_kind k SUBPROGRAM) true
+    (cond (same_kind k FEATURE) true
+    (cond (same_kind k PARAMETER) true (is_name k))))))))
 
 -- { connection }
 unfoldable pub connections : ℕ → Rule
@@ -94,4 +96,4 @@ pub record EndsAt (p : List ℕ) (s : Step) (r : Ends) : Type 0 where
   pub receiver : r.receiver ≡ (first (receiving s)).start
   pub into : r.into ≡ port_in (receiving s)
   pub both : r.pointed ≡ (pointed (sending s) && pointed (receiving s))
-  pub delayed : r.delayed ≡ eqb (first_kind (pointing s)) DELAYING
+  pub delayed : r.delayed ≡ same_kind (first_kind (pointing s)) DELAYING

@@ -1,6 +1,6 @@
 -- A connection is paid for by its text.
 use Rattle.std.specs.Prelude.{◌&&◌}
-use Rattle.common.specs.Words.{ℕ, arith}
+use Rattle.common.specs.Words.{ℕ, arith, refl}
 use Rattle.words.specs.Kinds.{SEMICOLON}
 use Rattle.tokens.specs.Laws.{cases}
 use Rattle.steps.specs.Steps.{On, head, next, second, the}
@@ -19,7 +19,7 @@ unfolding link declared
 link_pays p start n ps ts =
     paid_onward _ (declared p start n (On ts))
     (paid_onward _ (quiet (the SEMICOLON)) (paid_onward _ (maybe_block_in of_port) (paid_moved (ends_moves ts)) (maybe_block_pays of_port))
-    (pays_quiet (the SEMICOLON) (moves_the SEMICOLON (λ e. omega arith))))
+    (pays_quiet (the SEMICOLON) (moves_the SEMICOLON refl)))
     (pays_optionally (λ us. pointed (sending (On ts)) && pointed (receiving (On ts)))
     (put (linked p start n (On ts))) (pays_put (linked p start n (On ts))))
 

@@ -7,13 +7,10 @@ ghost use Rattle.rows.specs.States.{state_of, does};
 ghost use Rattle.links.specs.Links.{EndsAt, timing_by, link, other_kind, connection_of, label_in, connection, connection_kind, connections};
 
 use phrases::{arrow, dotted, link_kind, maybe_label, word_and_rest};
-use properties::{OF_PORT, TIMING, maybe_block_in};
+use properties::{Of, TIMING, maybe_block_in};
 use rows::{NO_PROPERTIES, Reading, next_of, on, put, symbol_on, with_props};
 use steps::{Went, is_name, name, next, second, start_of, symbol};
-use words::kinds::{
-    ACCESS, BUS, DATA, DELAYING, DOT, EVENT, FEATURE, PARAMETER, PORT, SEMICOLON, SUBPROGRAM,
-    VIRTUAL,
-};
+use words::kinds::Kind;
 
 // What a connection's row begins with.
 const A_LINK: usize = 6;
@@ -31,12 +28,6 @@ pub struct Ends {
     pub delayed: bool,
 }
 
-fn both(a: bool, b: bool) -> bool
-    ensures { result ≡ (a && b) }
-{
-    if a { b } else { false }
-}
-
 // port_kind place ( "->" | "->>" ) place
 fn ends_of(text: &[u8], went: Went) -> Ends
     ensures { EndsAt text.now (lift text.now went) result }
@@ -49,25 +40,24 @@ fn ends_of(text: &[u8], went: Went) -> Ends
     Ends {
         went: dotted(text, receiver),
         sender: start_of(text, sending),
-        out: start_of(text, symbol(text, sender, DOT)),
+        out: start_of(text, symbol(text, sender, Kind::Sign(b'.'))),
         receiver: start_of(text, receiving),
-        into: start_of(text, symbol(text, receiver, DOT)),
-        pointed: both(next(text, sender) == DOT, next(text, receiver) == DOT),
-        delayed: next(text, pointing) == DELAYING,
+        into: start_of(text, symbol(text, receiver, Kind::Sign(b'.'))),
+        pointed: next(text, sender) == Kind::Sign(b'.') && next(text, receiver) == Kind::Sign(b'.'),
+        delayed: next(text, pointing) == Kind::Delaying,
     }
 }
 
 // From its block; else 1, Delayed, where its arrow says so; 0 where neither says.
+#[tactic(auto, unfolding(crate::specs::Links::timing_by))]
 fn timing_of(in_block: usize, delayed: bool) -> usize
     ensures { result ≡ timing_by in_block delayed }
 {
-    if in_block != 0 {
-        return in_block;
+    if in_block == 0 {
+        usize::from(delayed)
+    } else {
+        in_block
     }
-    if delayed {
-        return 1;
-    }
-    0
 }
 
 // A port connection that begins at `start`; its name stands at `named`, 0 where it has none.
@@ -87,7 +77,7 @@ fn link(
     let behind = ends.went;
     let between = ends.pointed;
     let head = on(reading, behind);
-    let whole = symbol_on(text, maybe_block_in(text, head, OF_PORT), SEMICOLON);
+    let whole = symbol_on(text, maybe_block_in(text, head, Of::Port), Kind::Sign(b';'));
     if !between {
         return whole;
     }
@@ -111,28 +101,15 @@ fn link(
 }
 
 // Whether other connections begin with these two words.
-fn is_other_kind(kind: usize, second: usize) -> bool
+#[tactic(auto, unfolding(crate::specs::Links::other_kind))]
+fn is_other_kind(kind: Kind, second: Kind) -> bool
     ensures { result ≡ other_kind kind second }
 {
-    if kind == DATA {
-        return second == ACCESS;
+    match kind {
+        Kind::Data => second == Kind::Access,
+        Kind::Bus | Kind::Virtual | Kind::Subprogram | Kind::Feature | Kind::Parameter => true,
+        _ => false,
     }
-    if kind == BUS {
-        return true;
-    }
-    if kind == VIRTUAL {
-        return true;
-    }
-    if kind == SUBPROGRAM {
-        return true;
-    }
-    if kind == FEATURE {
-        return true;
-    }
-    if kind == PARAMETER {
-        return true;
-    }
-    false
 }
 
 fn connection_of(
@@ -184,34 +161,21 @@ fn connection(text: &[u8], rows: &mut [usize], reading: Reading, process: usize)
 }
 
 // Whether a connection may begin with a token of this kind.
-fn begins_connection(kind: usize) -> bool
+#[tactic(auto, unfolding(crate::specs::Links::connection_kind))]
+fn begins_connection(kind: Kind) -> bool
     ensures { result ≡ connection_kind kind }
 {
-    if kind == PORT {
-        return true;
-    }
-    if kind == EVENT {
-        return true;
-    }
-    if kind == DATA {
-        return true;
-    }
-    if kind == BUS {
-        return true;
-    }
-    if kind == VIRTUAL {
-        return true;
-    }
-    if kind == SUBPROGRAM {
-        return true;
-    }
-    if kind == FEATURE {
-        return true;
-    }
-    if kind == PARAMETER {
-        return true;
-    }
-    is_name(kind)
+    matches!(
+        kind,
+        Kind::Port
+            | Kind::Event
+            | Kind::Data
+            | Kind::Bus
+            | Kind::Virtual
+            | Kind::Subprogram
+            | Kind::Feature
+            | Kind::Parameter
+    ) || is_name(kind)
 }
 
 // { connection }

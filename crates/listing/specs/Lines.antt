@@ -6,7 +6,7 @@ use Rattle.plan.specs.declared.Plan.{Plan}
 use Rattle.digits.specs.Numbers.{in_bytes}
 use Rattle.frames.specs.Answers.{line_of}
 use Rattle.findings.specs.Findings.{number_of}
-use Rattle.findings.specs.declared.Refusal.{Refusal}
+use Rattle.steps.specs.declared.faults.Fault.{Fault as Refusal}
 
 -- "01: period (2 bytes), deadline (2)"; "Line 01 gets a sixth byte, priority"
 unfoldable pub task_bytes : ℕ → ℕ → ℕ → List ℕ

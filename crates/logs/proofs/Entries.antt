@@ -1,15 +1,15 @@
 -- What one line adds to a log, and that it is what its call adds to the history: an 84 is an accepted send, an 85 or an 86 a reading, an 87 an
 -- end. And logs that are one behind the other.
-use Rattle.std.specs.Prelude.{◌&&◌, ◌∷◌, ◌++◌, ◌⊎◌, ◌↔◌, ◌≡◌}
+use Rattle.std.specs.Prelude.{◌&&◌, ◌∷◌, ◌++◌, ◌⊎◌, ◌↔◌, ◌≡◌, Result, Ok, Err}
 use Rattle.common.specs.Words.{ℕ, arith, Bool, true, false, cond, List, [], map, inl, inr, refl, sym, ap, subst, ◌∙◌, eqb}
 use Rattle.calendar.specs.Calendar.{message}
 use Rattle.plan.specs.Plan.{queue_at}
 use Rattle.plan.specs.Says.{Said}
-use Rattle.mailbox.specs.Calls.{receiving_job, sent_says}
+use Rattle.mailbox.specs.Calls.{receiving_job, sent_says, stored_as}
 use Rattle.frames.specs.Answers.{line_of}
 use Rattle.calls.specs.CallLines.{sent_bytes, filler, received_bytes}
 use Rattle.history.specs.History.{send, receive, World, send_says, receive_says, Sends, accepted_as, readings, reads}
-use Rattle.logs.specs.Types.{Tick, Plan, Sent, Received, Frame}
+use Rattle.logs.specs.Types.{Tick, Plan, Refusal, Stored, Received, Frame}
 use Rattle.logs.specs.Said.{frame_in, payload_of, code_in, said_in, received_told}
 use Rattle.logs.specs.Log.{Entry, Log, Stores, StoredIn, asks, tells, lines_to, Ends, EndedIn}
 use Rattle.logs.specs.Session.{line_for}
@@ -102,7 +102,7 @@ module _ (e : Entry) (quiet : Quiet (frame_in e.line) e.answer) where
 
 module _ (p : Plan) (w : World) (e : Entry) (q i : ℕ) (t : Tick) (asked : frame_in e.line ≡ Frame.Send q i t)
     (answered : e.answer ≡ line_of (sent_bytes (send_says p w q i t.0 (payload_of e.line)))) where
-  abbrev sent : Sent
+  abbrev sent : Result Stored Refusal
   sent = send_says p w q i t.0 (payload_of e.line)
 
   sent_said : said_in e.answer ≡ sent_says sent
@@ -111,15 +111,15 @@ module _ (p : Plan) (w : World) (e : Entry) (q i : ℕ) (t : Tick) (asked : fram
   pub sent_stores : (r n : ℕ) (b : List ℕ) → Stores r n b e ↔ Sends p w (send q i t.0 (payload_of e.line)) r n b
   sent_stores r n b = (λ s. to s sent refl (sym sent_said ∙ s.told), λ s. from s)
     where
-      to : (s : Stores r n b e) (a : Sent) → sent ≡ a → sent_says sent ≡ (0x84, n ∷ s.slot ∷ []) →
+      to : (s : Stores r n b e) (a : Result Stored Refusal) → sent ≡ a → sent_says sent ≡ (0x84, n ∷ s.slot ∷ []) →
           Sends p w (send q i t.0 (payload_of e.line)) r n b
-      to s (Sent.Refused x) d h = absurd (differ (ap (λ (y : Said). y.0) (ap sent_says (sym d) ∙ h)) refl (λ x. omega arith))
-      to s (Sent.Stored m at) d h =
-          let v : m.0 ≡ n = ap (λ (y : Said). head_of y.1) (ap sent_says (sym d) ∙ h) in
+      to s (Err x) d h = absurd (differ (ap (λ (y : Said). y.0) (ap sent_says (sym d) ∙ h)) refl (λ x. omega arith))
+      to s (Ok it) d h =
+          let v : it.number.0 ≡ n = ap (λ (y : Said). head_of y.1) (ap sent_says (sym d) ∙ h) in
           let same : q ≡ r = cc in
           subst (λ (x : ℕ). Sends p w (send q i t.0 (payload_of e.line)) x n b) same
           (subst (λ (x : List ℕ). Sends p w (send q i t.0 (payload_of e.line)) q n x) s.carried
-          (accepted_as (d ∙ ap (λ (x : ℕ). Sent.Stored (message x) at) v)))
+          (accepted_as (d ∙ ap (λ (x : ℕ). stored_as (message x) it.slot) v)))
         where
           head_of : List ℕ → ℕ
           head_of [] = 0

@@ -11,7 +11,7 @@ use Rattle.feed.specs.Answers as feed
 use Rattle.history.specs.History.{Call, send, receive, World, History, start, ◌then◌, same, more, Begins, after, world, send_says, receive_says}
 use Rattle.history.specs.History.{go_on, history, SentIn, Sends, reads, read_by, ReadToEnd}
 use Rattle.history.proofs.Lists.{go_on_append}
-use Rattle.logs.specs.Types.{Tick, Plan, Started, Received, Frame, Desk}
+use Rattle.logs.specs.Types.{Tick, Plan, clear, Received, Frame, Desk}
 use Rattle.logs.specs.Said.{frame_in, payload_of}
 use Rattle.logs.specs.Log.{Entry, Log, log_of, opened, call_made, calls_in, Stores, StoredIn, lines_to, Ends, EndedIn}
 use Rattle.logs.specs.Session.{line_for, state_and_memory, Runs}
@@ -300,7 +300,7 @@ module _ (m : List ℕ) where
         (rest (next_by t) (log ++ (entry_by l t ∷ [])) off (here ∙ lent)
         (silent_more silent (entry_by l t) (subst (λ (g : Frame). Quiet g t.answer) (sym asked) quiet))))
     by_turn asked e (starts {p = p} table made ready) rest =
-        begun w log l ls asked made (record { ready = subst (λ (x : List ℕ). start_answer p x ≡ Started.Ready) lent ready })
+        begun w log l ls asked made (record { ready = subst (λ (x : List ℕ). start_answer p x ≡ clear) lent ready })
         (subst (λ (x : Turn). Runs p m start (next_by x) (log ++ (entry_by l x ∷ []))) (sym e)
         (subst
         (λ (x : List ℕ).

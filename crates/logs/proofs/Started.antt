@@ -1,5 +1,5 @@
 -- A session in which an 03 was accepted: the lines before it, the 03, and the lines since then, which are a history on the desk's plan.
-use Rattle.std.specs.Prelude.{◌<◌, ◌∷◌, ◌++◌, ◌↔◌, ◌≡◌}
+use Rattle.std.specs.Prelude.{◌<◌, ◌∷◌, ◌++◌, ◌↔◌, ◌≡◌, Ok, Err}
 use Rattle.common.specs.Words.{ℕ, arith, Bool, true, false, cond, List, [], map, inl, inr, refl, sym, ap, subst, ◌∙◌}
 use Rattle.common.specs.Tests.{clash}
 use Rattle.planning.specs.AcceptedPlan.{Made}
@@ -11,7 +11,7 @@ use Rattle.history.specs.History.{World, History, Begins, world, history, go_on,
 use Rattle.history.specs.History.{AllFair, Among, ReadToEnd}
 use Rattle.history.proofs.Answers.{Answered, ended, answered_so}
 use Rattle.history.proofs.Theorems.{same_readings}
-use Rattle.logs.specs.Types.{Plan, Answer, Planned, Started, Received, Frame, Desk}
+use Rattle.logs.specs.Types.{Plan, Verdict, Planned, Received, Frame, Desk}
 use Rattle.logs.specs.Said.{frame_in, payload_of, code_in}
 use Rattle.logs.proofs.Lines.{refusal_code}
 use Rattle.logs.proofs.Frames.{turn_of, line_turn_lem}
@@ -48,14 +48,14 @@ module _ (d : Desk) (m : List ℕ) where
   abbrev Says81 : Turn → Type 0
   Says81 t = code_in t.answer ≡ 0x81 → t.desk.running ≡ true
 
-  start_81 : (p : Plan) (a : Started) → Says81 (start_turn d p m a)
+  start_81 : (p : Plan) (a : Verdict) → Says81 (start_turn d p m a)
   unfolding with_run
-  start_81 p Started.Ready c = refl
-  start_81 p (Started.Refused r) c = absurd (not_81 (refusal_code r) c)
+  start_81 p (Ok it) c = refl
+  start_81 p (Err r) c = absurd (not_81 (refusal_code r) c)
 
-  plan_81 : (p : Plan) (a : Answer) → Says81 (plan_turn d p m a)
-  plan_81 p Answer.Accepted c = start_81 p (start_answer p m) c
-  plan_81 p (Answer.Refused r) c = absurd (not_81 (refusal_code r) c)
+  plan_81 : (p : Plan) (a : Verdict) → Says81 (plan_turn d p m a)
+  plan_81 p (Ok it) c = start_81 p (start_answer p m) c
+  plan_81 p (Err r) c = absurd (not_81 (refusal_code r) c)
 
   go_81 : Says81 (go_turn d m)
   unfolding go_turn

@@ -1,13 +1,13 @@
 -- What a line does, by the desk that it finds: on a desk that runs it is a send, a receive or nothing; before that it starts the run or
 -- changes no byte of memory.
-use Rattle.std.specs.Prelude.{◌≡◌}
+use Rattle.std.specs.Prelude.{◌≡◌, Ok, Err}
 use Rattle.common.specs.Words.{ℕ, Bool, true, false, cond, List, [], refl, sym, subst, leb}
 use Rattle.plan.specs.Limits.{task_limit, queue_limit}
 use Rattle.planning.specs.AcceptedPlan.{Made, accepted_made}
 use Rattle.mailbox.specs.Calls.{fresh, start_answer, start_memory}
 use Rattle.frames.specs.Answers.{sizes_bytes}
 use Rattle.desk.specs.Desk.{Turn, silent, says, bad, row_turn, with_task, with_queue, square_of, planned, with_run, start_turn, plan_turn, go_turn}
-use Rattle.logs.specs.Types.{Tick, Plan, Answer, Started, Frame, Desk}
+use Rattle.logs.specs.Types.{Tick, Plan, Verdict, clear, Frame, Desk}
 use Rattle.logs.specs.Said.{code_in}
 use Rattle.logs.proofs.Lines.{bad_code}
 use Rattle.logs.proofs.Frames.{sending, receiving, turn_of}
@@ -41,7 +41,7 @@ Quiet Frame.Go answer = Unit {0}
 Quiet Frame.Bad answer = Unit {0}
 
 pub data Waits (d : Desk) (m : List ℕ) : Frame → Turn → Type 0 where
-  starts : {p : Plan} → p ≡ (planned d).plan → Made p → start_answer p m ≡ Started.Ready →
+  starts : {p : Plan} → p ≡ (planned d).plan → Made p → start_answer p m ≡ clear →
       Waits d m Frame.Go (says (with_run d p fresh) (start_memory p m) (sizes_bytes p.size p.queues))
   waits : {f : Frame} {t : Turn} → t.desk.running ≡ false → t.memory ≡ m → Quiet f t.answer → Waits d m f t
 
@@ -59,17 +59,17 @@ module _ (d : Desk) (m : List ℕ) (e : d.running ≡ false) where
       go true = waits e refl (quiet _)
       go false = waits g refl (quiet _)
 
-  start_waits : (a : Started) → Made (planned d).plan → start_answer (planned d).plan m ≡ a →
+  start_waits : (a : Verdict) → Made (planned d).plan → start_answer (planned d).plan m ≡ a →
       Waits d m Frame.Go (start_turn d (planned d).plan m a)
-  start_waits Started.Ready made s = starts refl made s
-  start_waits (Started.Refused r) made s = waits refl refl tt
+  start_waits (Ok it) made s = starts refl made s
+  start_waits (Err r) made s = waits refl refl tt
 
-  plan_waits : (a : Answer) → (planned d).answer ≡ a → Waits d m Frame.Go (plan_turn d (planned d).plan m a)
+  plan_waits : (a : Verdict) → (planned d).answer ≡ a → Waits d m Frame.Go (plan_turn d (planned d).plan m a)
   unfolding planned
-  plan_waits Answer.Accepted a =
+  plan_waits (Ok it) a =
       start_waits (start_answer (planned d).plan m)
       (accepted_made d.tasks d.queues d.period d.deadline d.priority d.receiver (square_of d.senders) a) refl
-  plan_waits (Answer.Refused r) a = waits refl refl tt
+  plan_waits (Err r) a = waits refl refl tt
 
   pub waiting : (payload : List ℕ) (f : Frame) → Waits d m f (turn_of d m payload f)
   unfolding with_task with_queue go_turn

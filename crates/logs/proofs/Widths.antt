@@ -1,6 +1,6 @@
 -- What an answer has to say fits the bytes that its line has for it: numbers, slots, sizes, senders and rows, on every input. It leans on
 -- history's cases of a call and on the limits of a sound plan.
-use Rattle.std.specs.Prelude.{◌*◌, ◌%◌, ◌^◌, ◌<◌, ◌≤◌, ◌&&◌, ◌∷◌, ◌++◌, ◌⊎◌, ◌≡◌}
+use Rattle.std.specs.Prelude.{◌*◌, ◌%◌, ◌^◌, ◌<◌, ◌≤◌, ◌&&◌, ◌∷◌, ◌++◌, ◌⊎◌, ◌≡◌, Result, Ok, Err}
 use Rattle.common.specs.Words.{ℕ, arith, Bool, true, List, [], inl, inr, refl, sym, subst, ap, ◌∙◌, drop, ltb, ltb-true, not-false, mod-lt}
 use Rattle.common.specs.Words.{mul-le-mul, div-mul-le_self}
 use Rattle.common.specs.Tests.{both, having}
@@ -25,7 +25,7 @@ use Rattle.history.proofs.Steps.{Step, sends, stays, step, send_stores, number_a
 use Rattle.history.proofs.Ground.{valid_at}
 use Rattle.history.proofs.Answers.{Answered, finding, missing, ended, refused, answered_so, told, told_window}
 use Rattle.history.proofs.Holds.{ready_sound}
-use Rattle.logs.specs.Types.{Plan, Refusal, Answer, Planned, Started, Sent, Received, State}
+use Rattle.logs.specs.Types.{Plan, Refusal, Verdict, clear, Planned, Stored, Received, State}
 
 -- ## Rows of refusals
 
@@ -79,21 +79,20 @@ ReceivedFits (Received.Gap n row) = (n.0 < 256 ^ 6) × (row < 256)
 ReceivedFits Received.Empty = Unit {0}
 ReceivedFits (Received.Refused r) = r.row < 256
 
-abbrev pub SentFits : Sent → Type 0
-SentFits (Sent.Stored n at) = (n.0 < 256 ^ 6) × (at.0 < 256 ^ 2)
-SentFits (Sent.Refused r) = r.row < 256
+abbrev pub SentFits : Result Stored Refusal → Type 0
+SentFits (Ok it) = (it.number.0 < 256 ^ 6) × (it.slot.0 < 256 ^ 2)
+SentFits (Err r) = r.row < 256
 
 module _ (s : State) (p : Plan) (m : List ℕ) where
   abbrev w : World
   w = record { state = s; memory = m }
 
-  pub send_fits : (q i t : ℕ) (payload : List ℕ) (a : Sent) → send_answer s p m q i t payload ≡ a → SentFits a
-  send_fits q i t payload (Sent.Refused r) e = row_small (send_lines s p m q i t payload) r refl ((send_refused s p m q i t payload r).0 e)
-  send_fits q i t payload (Sent.Stored n at) e = go e (step p w (send q i t payload))
+  pub send_fits : (q i t : ℕ) (payload : List ℕ) (a : Result Stored Refusal) → send_answer s p m q i t payload ≡ a → SentFits a
+  send_fits q i t payload (Err r) e = row_small (send_lines s p m q i t payload) r refl ((send_refused s p m q i t payload r).0 e)
+  send_fits q i t payload (Ok it) e = go e (step p w (send q i t payload))
     where
-      go : {w' : World} → send_answer s p m q i t payload ≡ Sent.Stored n at → Step p w (send q i t payload) w' →
-          SentFits (Sent.Stored n at)
-      go e (stays quiet) = absurd (quiet.no_send q n.0 payload (accepted_as e))
+      go : {w' : World} → send_answer s p m q i t payload ≡ Ok it → Step p w (send q i t payload) w' → SentFits (Ok it)
+      go e (stays quiet) = absurd (quiet.no_send q it.number.0 payload (accepted_as e))
       go e (sends can) =
           let sound : Sound p = can.ground.sound in
           subst SentFits (sym (send_stores p w q i t payload can) ∙ e) (
@@ -118,13 +117,13 @@ module _ (s : State) (p : Plan) (m : List ℕ) where
 
 -- ## Start
 
-abbrev pub StartedFits : Plan → Started → Type 0
-StartedFits p Started.Ready = (q : ℕ) → q < p.queues → size_at p q < 256 ^ 2
-StartedFits p (Started.Refused r) = r.row < 256
+abbrev pub StartedFits : Plan → Verdict → Type 0
+StartedFits p (Ok it) = (q : ℕ) → q < p.queues → size_at p q < 256 ^ 2
+StartedFits p (Err r) = r.row < 256
 
-pub start_fits : (p : Plan) (m : List ℕ) (a : Started) → start_answer p m ≡ a → StartedFits p a
-start_fits p m Started.Ready e = λ q h. omega (arith, ((sound_iff p).0 (ready_sound (record { ready = e }))).size_fits q h)
-start_fits p m (Started.Refused r) e = row_small (start_lines p m) r refl ((start_refused p m r).0 e)
+pub start_fits : (p : Plan) (m : List ℕ) (a : Verdict) → start_answer p m ≡ a → StartedFits p a
+start_fits p m (Ok it) e = λ q h. omega (arith, ((sound_iff p).0 (ready_sound (record { ready = e }))).size_fits q h)
+start_fits p m (Err r) e = row_small (start_lines p m) r refl ((start_refused p m r).0 e)
 
 -- ## Planning
 
@@ -153,18 +152,18 @@ module _ (tasks queues : ℕ) (period deadline priority receiver : List ℕ) (sq
       go c (inr (_, inr (_, inr (_, inr (_, inl s))))) = rw (← s.1) (omega arith)
       go c (inr (_, inr (_, inr (_, inr (_, inr s))))) = absurd s.1
 
-  pub planning_fits : (r : Refusal) → (plan_of tasks queues period deadline priority receiver square).answer ≡ Answer.Refused r → r.row < 256
+  pub planning_fits : (r : Refusal) → (plan_of tasks queues period deadline priority receiver square).answer ≡ Err r → r.row < 256
   planning_fits r e = go (passed_or_stopped lines)
     where
       go : Passed lines ⊎ ((s : Refusal) × Stopped lines s) → r.row < 256
       go (inl h) =
-          let a : Answer.Refused r ≡ Answer.Accepted =
+          let a : Err r ≡ clear =
           sym e
           ∙ ap (λ (x : Planned). x.answer)
           (plan_lines tasks queues period deadline priority receiver square ∙ passed_good lines refused_plan (accepted_plan T) h) in
           absurd (let z : ◌≡◌ {A = ℕ} 0 1 = cc in omega arith)
       go (inr h) =
-          let a : Answer.Refused r ≡ Answer.Refused h.0 =
+          let a : ◌≡◌ {A = Verdict} (Err r) (Err h.0) =
           sym e
           ∙ ap (λ (x : Planned). x.answer)
           (plan_lines tasks queues period deadline priority receiver square ∙ stopped_refused lines h.0 refused_plan (accepted_plan T) h.1) in

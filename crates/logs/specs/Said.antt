@@ -1,6 +1,6 @@
 -- What a line of the console says. A line that was answered is a frame; a line that answers is a code and values, read from its digits
 -- alone. And beside it what the console had to say: the code and the values of the call's own answer. Law `read_back` says that they agree.
-use Rattle.std.specs.Prelude.{◌+◌, ◌*◌, ◌/◌, ◌∷◌}
+use Rattle.std.specs.Prelude.{◌+◌, ◌*◌, ◌/◌, ◌∷◌, Ok, Err}
 use Rattle.common.specs.Words.{ℕ, Bool, cond, List, [], leb, eqb, length}
 use Rattle.common.specs.Table.{table}
 use Rattle.plan.specs.Limits.{task_limit, queue_limit}
@@ -12,7 +12,7 @@ use Rattle.digits.specs.Numbers.{value_at}
 use Rattle.frames.specs.Frames.{frame_of, payload_in}
 use Rattle.console.specs.Framing.{framed_bytes}
 use Rattle.desk.specs.Desk.{planned}
-use Rattle.logs.specs.Types.{Plan, Answer, Started, Received, Frame, Desk}
+use Rattle.logs.specs.Types.{Plan, Verdict, Received, Frame, Desk}
 
 -- ## Of a line that was answered
 
@@ -51,13 +51,13 @@ received_told (Received.Gap n row) = (0x86, n.0 ∷ row ∷ [])
 received_told Received.Empty = (0x87, [])
 received_told (Received.Refused r) = refused_says r
 
-abbrev pub start_told : Plan → Started → Said
-start_told p Started.Ready = (0x81, table (size_at p) p.queues)
-start_told p (Started.Refused r) = refused_says r
+abbrev pub start_told : Plan → Verdict → Said
+start_told p (Ok it) = (0x81, table (size_at p) p.queues)
+start_told p (Err r) = refused_says r
 
-abbrev pub plan_told : Plan → List ℕ → Answer → Said
-plan_told p m Answer.Accepted = start_told p (start_answer p m)
-plan_told p m (Answer.Refused r) = refused_says r
+abbrev pub plan_told : Plan → List ℕ → Verdict → Said
+plan_told p m (Ok it) = start_told p (start_answer p m)
+plan_told p m (Err r) = refused_says r
 
 -- "is answered 7ff000"
 abbrev pub bad_told : Said

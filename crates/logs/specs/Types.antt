@@ -4,11 +4,10 @@ pub use Rattle.calendar.specs.declared.Slot.{Slot}
 pub use Rattle.calendar.specs.declared.Tick.{Tick}
 pub use Rattle.plan.specs.declared.Plan.{Plan}
 pub use Rattle.plan.specs.declared.refusal.Refusal.{Refusal}
-pub use Rattle.planning.specs.declared.Answer.{Answer}
+pub use Rattle.plan.specs.Refusals.{Verdict, clear}
 pub use Rattle.planning.specs.declared.Planned.{Planned}
 pub use Rattle.running.specs.declared.Received.{Received}
-pub use Rattle.running.specs.declared.Sent.{Sent}
-pub use Rattle.running.specs.declared.Started.{Started}
+pub use Rattle.running.specs.declared.Stored.{Stored}
 pub use Rattle.mailbox.specs.declared.State.{State}
 pub use Rattle.frames.specs.declared.frame.Frame.{Frame}
 pub use Rattle.desk.specs.declared.Desk.{Desk}

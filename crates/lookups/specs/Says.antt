@@ -1,8 +1,8 @@
 -- What the lookups answer in document 01's numbers, line by line.
-use Rattle.std.specs.Prelude.{◌∷◌, ◌≡◌}
+use Rattle.std.specs.Prelude.{◌∷◌, ◌≡◌, Err}
 use Rattle.common.specs.Words.{ℕ, cond, not, [], ltb, eqb}
 use Rattle.model.specs.Model.{receiver_period, released, deadline_of, number, up_to, sender_of, job_of, first, last}
-use Rattle.lookups.specs.Types.{Job, Number, Plan, Numbered, Origins, Window}
+use Rattle.lookups.specs.Types.{Job, Number, Plan}
 use Rattle.plan.specs.Limits.{last_tick}
 use Rattle.plan.specs.Plan.{queue_at}
 use Rattle.plan.specs.Says.{no}
@@ -19,7 +19,7 @@ pub number_says : (p : Plan) (q i : ℕ) (k : Job) →
     (cond (ltb last_tick (deadline_of (queue_at p q) i k.0)) (no 11)
     (0, number (queue_at p q) i k.0 ∷ [])))
 unfolding numbered_of
-number_says p q i k = judged_map numbered_says (number_lines p q i k) Numbered.Refused _
+number_says p q i k = judged_map numbered_says (number_lines p q i k) Err _
 
 pub origins_says_lem : (p : Plan) (q : ℕ) (n : Number) →
     origins_says (origins_of p q n) ≡
@@ -29,7 +29,7 @@ pub origins_says_lem : (p : Plan) (q : ℕ) (n : Number) →
     (cond (ltb (up_to (queue_at p q) last_tick) n.0) (no 15)
     (0, sender_of (queue_at p q) last_tick n.0 ∷ job_of (queue_at p q) last_tick n.0 ∷ []))))
 unfolding origins_of
-origins_says_lem p q n = judged_map origins_says (origin_lines p q n) Origins.Refused _
+origins_says_lem p q n = judged_map origins_says (origin_lines p q n) Err _
 
 pub window_says_lem : (p : Plan) (q : ℕ) (m : Job) →
     window_says (window_of p q m) ≡
@@ -38,4 +38,4 @@ pub window_says_lem : (p : Plan) (q : ℕ) (m : Job) →
     (cond (ltb last_tick (released (receiver_period (queue_at p q)) m.0)) (no 11)
     (0, first (queue_at p q) m.0 ∷ last (queue_at p q) m.0 ∷ [])))
 unfolding window_of
-window_says_lem p q m = judged_map window_says (window_lines p q m) Window.Refused _
+window_says_lem p q m = judged_map window_says (window_lines p q m) Err _

@@ -4,6 +4,5 @@ pub use Rattle.calendar.specs.declared.Number.{Number}
 pub use Rattle.plan.specs.declared.Plan.{Plan}
 pub use Rattle.plan.specs.declared.refusal.Refusal.{Refusal}
 pub use Rattle.plan.specs.declared.refusal.Rule.{Rule}
-pub use Rattle.lookups.specs.declared.Numbered.{Numbered}
-pub use Rattle.lookups.specs.declared.Origins.{Origins}
+pub use Rattle.numbering.specs.declared.origin.Origin.{Origin}
 pub use Rattle.lookups.specs.declared.Window.{Window}

@@ -1,16 +1,16 @@
 -- What start, send and receive answer, and the state and memory that each leaves, on every input. All of it is the crate running's: a send
 -- looks at the state's tick and at the job after the last one that the task sent into the queue, a receive at its tick and at the queue's
 -- reading place, and what each leaves follows from its answer.
-use Rattle.std.specs.Prelude.{◌∷◌, ◌≡◌}
+use Rattle.std.specs.Prelude.{◌∷◌, ◌≡◌, Result, Ok, Err}
 use Rattle.common.specs.Words.{ℕ, List, [], get_or, replicate}
 use Rattle.calendar.specs.Calendar.{tick}
 use Rattle.plan.specs.Limits.{queue_limit, cell_limit}
 use Rattle.plan.specs.Refusals.{Line}
 use Rattle.plan.specs.Says.{Said, refused_says}
-use Rattle.mailbox.specs.Types.{Plan, State, Started, Starting, Sent, Sending, Received, Receiving}
+use Rattle.mailbox.specs.Types.{Plan, Refusal, Verdict, State, Starting, Stored, Sending, Received, Receiving}
 use Rattle.running.specs.Calls as running
 unfoldable pub use Rattle.running.specs.Calls.{start_answer, start_memory, found}
-pub use Rattle.running.specs.Calls.{start_lines, running_job, running_deadline, receiving_job, running_number, slot_in, slot_for}
+pub use Rattle.running.specs.Calls.{start_lines, running_job, running_deadline, receiving_job, running_number, slot_in, slot_for, stored_as}
 
 -- "a fresh state at tick 0"
 abbrev pub fresh : State
@@ -25,11 +25,11 @@ unsent_at s q i = running.unsent_at s.sent q i
 abbrev pub send_lines : State → Plan → List ℕ → ℕ → ℕ → ℕ → List ℕ → List Line
 send_lines s p m q i t payload = running.send_lines s.tick.0 (unsent_at s q i) p m q i t payload
 
-abbrev pub send_answer : State → Plan → List ℕ → ℕ → ℕ → ℕ → List ℕ → Sent
+abbrev pub send_answer : State → Plan → List ℕ → ℕ → ℕ → ℕ → List ℕ → Result Stored Refusal
 send_answer s p m q i t payload = running.send_answer s.tick.0 (unsent_at s q i) p m q i t payload
 
 -- where a message was stored, the task's job is recorded
-abbrev pub recorded : State → Plan → ℕ → ℕ → ℕ → Sent → State
+abbrev pub recorded : State → Plan → ℕ → ℕ → ℕ → Result Stored Refusal → State
 recorded s p q i t a = record {
   tick = tick (running.sent_tick a s.tick.0 t);
   sent = running.sent_jobs a s.sent p.period q i t;
@@ -87,14 +87,14 @@ ReceiveGives s p m q t r = r ≡ record { answer = look s p m q t; state = recei
 
 -- ## The answers in document 01's numbers: the code by which the console names each kind of answer, and its values
 
-abbrev pub started_says : Started → Said
-started_says Started.Ready = (0x81, [])
-started_says (Started.Refused r) = refused_says r
+abbrev pub started_says : Verdict → Said
+started_says (Ok it) = (0x81, [])
+started_says (Err r) = refused_says r
 
 -- number, and slot within its queue
-abbrev pub sent_says : Sent → Said
-sent_says (Sent.Stored n at) = (0x84, n.0 ∷ at.0 ∷ [])
-sent_says (Sent.Refused r) = refused_says r
+abbrev pub sent_says : Result Stored Refusal → Said
+sent_says (Ok it) = (0x84, it.number.0 ∷ it.slot.0 ∷ [])
+sent_says (Err r) = refused_says r
 
 -- a message's number, and slot from the start of memory; a gap's number and sender
 abbrev pub received_says : Received → Said

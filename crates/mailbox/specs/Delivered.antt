@@ -16,14 +16,15 @@ use Rattle.slots.specs.SlotLaws.{number_same, payload_same, length_stored, numbe
 use Rattle.running.specs.Calls as running
 use Rattle.running.specs.Bounds.{slot_inside_lem, count_small}
 use Rattle.running.specs.Outcomes.{started_clear, start_is_clear, sent_clear, send_is_clear}
-use Rattle.mailbox.specs.Types.{Number, Slot, Plan, State, Started, Sent, Received, Verdict}
-use Rattle.mailbox.specs.Calls.{start_answer, start_memory, send_lines, running_job, running_number, running_deadline, slot_for, unsent_at}
-use Rattle.mailbox.specs.Calls.{send_answer, send_state, send_memory, receive_lines, receiving_job, next_number, found, look, accepted_receive}
+use Rattle.mailbox.specs.Types.{Number, Slot, Plan, State, Stored, Received, clear}
+use Rattle.mailbox.specs.Calls.{start_answer, start_memory, send_lines, running_job, running_number, running_deadline, slot_in, slot_for, unsent_at}
+use Rattle.mailbox.specs.Calls.{stored_as, send_answer, send_state, send_memory, receive_lines}
+use Rattle.mailbox.specs.Calls.{receiving_job, next_number, found, look, accepted_receive}
 use Rattle.running.specs.View.{view_of}
 use Rattle.mailbox.specs.Outcomes.{state_clear}
 
 -- "Start clears the slots of the plan": each reads as never written
-pub start_unwritten : (p : Plan) (m : List ℕ) (k : ℕ) → start_answer p m ≡ Started.Ready → k < slots_of p →
+pub start_unwritten : (p : Plan) (m : List ℕ) (k : ℕ) → start_answer p m ≡ clear → k < slots_of p →
     number_in payload_bytes (start_memory p m) k ≡ 0
 start_unwritten p m k e h =
     rw (started_clear p m refl (start_is_clear p m e)).1 (number_cleared payload_bytes m (slots_of p) k h)
@@ -31,7 +32,7 @@ start_unwritten p m k e h =
 -- ## A send and then a receive of its number
 
 module _ (s : State) (p : Plan) (m : List ℕ) (q i t : ℕ) (payload : List ℕ) (n : Number) (at : Slot)
-    (told : send_answer s p m q i t payload ≡ Sent.Stored n at) where
+    (told : send_answer s p m q i t payload ≡ stored_as n at) where
   abbrev state : State
   state = send_state s p m q i t payload
 
@@ -41,16 +42,19 @@ module _ (s : State) (p : Plan) (m : List ℕ) (q i t : ℕ) (payload : List ℕ
   abbrev place : ℕ
   place = slot_for p q n.0
 
-  clear : verdict (send_lines s p m q i t payload) ≡ Verdict.Clear
-  clear = send_is_clear s.tick.0 (unsent_at s q i) p m q i t payload n at told
+  is_clear : verdict (send_lines s p m q i t payload) ≡ clear
+  is_clear = send_is_clear s.tick.0 (unsent_at s q i) p m q i t payload n at told
 
   taken : SendTaken s.tick.0 (unsent_at s q i) p m q i t payload
-  taken = send_taken s.tick.0 (unsent_at s q i) p m q i t payload refl clear
+  taken = send_taken s.tick.0 (unsent_at s q i) p m q i t payload refl is_clear
 
   -- the number that was answered is the running job's
   pub answered : n ≡ message (running_number (queue_at p q) i t)
   answered =
-      let e : send_answer s p m q i t payload ≡ _ = (sent_clear s.tick.0 (unsent_at s q i) p m q i t payload refl clear).0 in cc
+      let e : send_answer s p m q i t payload ≡ _ = (sent_clear s.tick.0 (unsent_at s q i) p m q i t payload refl is_clear).0 in
+      let same : ◌≡◌ {A = Stored} (record { number = n; slot = at })
+      (record { number = message (running_number (queue_at p q) i t); slot = slot (slot_in p q (running_number (queue_at p q) i t)) }) = cc in
+      ap (λ (x : Stored). x.number) same
 
   number_fits : n.0 < 2 ^ 64
   number_fits =
@@ -63,7 +67,7 @@ module _ (s : State) (p : Plan) (m : List ℕ) (q i t : ℕ) (payload : List ℕ
       ))
 
   memory_is : memory ≡ stored payload_bytes m place n.0 payload
-  memory_is = rw answered (sent_clear s.tick.0 (unsent_at s q i) p m q i t payload refl clear).1
+  memory_is = rw answered (sent_clear s.tick.0 (unsent_at s q i) p m q i t payload refl is_clear).1
 
   -- what the slot then holds
   pub sent_number : number_in payload_bytes (send_memory s p m q i t payload) (slot_for p q n.0) ≡ n.0
@@ -93,7 +97,7 @@ module _ (s : State) (p : Plan) (m : List ℕ) (q i t : ℕ) (payload : List ℕ
     in_order : state.tick.0 ≤ u
     in_order =
         let v = (usable taken.ground.sound q taken.queue).valid in
-        let o = ap (λ (x : State). x.tick.0) (state_clear s p m q i t payload clear) in
+        let o = ap (λ (x : State). x.tick.0) (state_clear s p m q i t payload is_clear) in
         let d = (last_iff (queue_at p q) v (receiving_job (queue_at p q) u) i (running_job (queue_at p q) i t) taken.sender).0
         (rw answered at window) in
         omega (arith, o, d, taken.running, div-mul-le_self u (receiver_period (queue_at p q)))

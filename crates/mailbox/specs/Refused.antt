@@ -1,10 +1,10 @@
 -- Refusals of the running calls: each is given exactly where its line is the first that applies, and gives back state and memory.
-use Rattle.std.specs.Prelude.{◌↔◌, ◌≡◌}
+use Rattle.std.specs.Prelude.{◌↔◌, ◌≡◌, Ok, Err}
 use Rattle.common.specs.Words.{Bool, true, false, cond, List, ◌∙◌, ℕ, arith, ltb, eqb}
 use Rattle.plan.specs.Limits.{last_tick, payload_bytes}
 use Rattle.plan.specs.Plan.{queue_at}
 use Rattle.plan.specs.Refusals.{Line, judged}
-use Rattle.mailbox.specs.Types.{Plan, Refusal, Verdict, State, Started, Sent, Received}
+use Rattle.mailbox.specs.Types.{Plan, Refusal, Verdict, clear, State, Received}
 use Rattle.model.specs.Model.{last, sender_of}
 use Rattle.calendar.specs.Calendar.{message, slot}
 use Rattle.running.specs.Calls as running
@@ -22,20 +22,20 @@ refusal_iff {A} lines refused good r tells apart = (
   λ f. by_verdict lines refused good ∙ rw (stopped_verdict lines r f),
 )
   where
-    go : (v : Verdict) → outcome v refused good ≡ refused r → v ≡ Verdict.Refused r
-    go Verdict.Clear e = absurd (apart e)
-    go (Verdict.Refused x) e = rw (tells x e)
+    go : (v : Verdict) → outcome v refused good ≡ refused r → v ≡ Err r
+    go (Ok it) e = absurd (apart e)
+    go (Err x) e = rw (tells x e)
 
-pub start_refused : (p : Plan) (m : List ℕ) (r : Refusal) → (start_answer p m ≡ Started.Refused r) ↔ Stopped (start_lines p m) r
+pub start_refused : (p : Plan) (m : List ℕ) (r : Refusal) → (start_answer p m ≡ Err r) ↔ Stopped (start_lines p m) r
 unfolding start_answer
 start_refused p m r =
-    refusal_iff (start_lines p m) Started.Refused Started.Ready r (λ x e. cc) (λ e. let z : ◌≡◌ {A = ℕ} 0 1 = cc in omega arith)
+    refusal_iff {A = Verdict} (start_lines p m) Err clear r (λ x e. cc) (λ e. let z : ◌≡◌ {A = ℕ} 0 1 = cc in omega arith)
 
 pub send_refused : (s : State) (p : Plan) (m : List ℕ) (q i t : ℕ) (payload : List ℕ) (r : Refusal) →
-    (send_answer s p m q i t payload ≡ Sent.Refused r) ↔ Stopped (send_lines s p m q i t payload) r
+    (send_answer s p m q i t payload ≡ Err r) ↔ Stopped (send_lines s p m q i t payload) r
 unfolding running.send_answer
 send_refused s p m q i t payload r =
-    refusal_iff (send_lines s p m q i t payload) Sent.Refused _ r (λ x e. cc) (λ e. let z : ◌≡◌ {A = ℕ} 0 1 = cc in omega arith)
+    refusal_iff (send_lines s p m q i t payload) Err _ r (λ x e. cc) (λ e. let z : ◌≡◌ {A = ℕ} 0 1 = cc in omega arith)
 
 found_no_refusal : (p : Plan) (m : List ℕ) (q n : ℕ) (r : Refusal) → found p m q n ≡ Received.Refused r → ⊥
 unfolding found
@@ -65,12 +65,12 @@ receive_refused s p m q t r =
 unchanged : {A : Type 0} (lines : List Line) (was new : A) (r : Refusal) → Stopped lines r → judged lines (λ r. was) new ≡ was
 unchanged lines was new r f = by_verdict lines (λ r. was) new ∙ rw (stopped_verdict lines r f)
 
-pub start_keeps : (p : Plan) (m : List ℕ) (r : Refusal) → start_answer p m ≡ Started.Refused r → start_memory p m ≡ m
+pub start_keeps : (p : Plan) (m : List ℕ) (r : Refusal) → start_answer p m ≡ Err r → start_memory p m ≡ m
 unfolding start_memory
 start_keeps p m r e = unchanged (start_lines p m) m _ r ((start_refused p m r).0 e)
 
 pub send_keeps : (s : State) (p : Plan) (m : List ℕ) (q i t : ℕ) (payload : List ℕ) (r : Refusal) →
-    send_answer s p m q i t payload ≡ Sent.Refused r → (send_state s p m q i t payload ≡ s) × (send_memory s p m q i t payload ≡ m)
+    send_answer s p m q i t payload ≡ Err r → (send_state s p m q i t payload ≡ s) × (send_memory s p m q i t payload ≡ m)
 unfolding send_state running.send_memory
 send_keeps s p m q i t payload r e = (
   rw e,

@@ -1,12 +1,12 @@
 -- What the running calls answer in document 01's numbers, refusal by refusal.
-use Rattle.std.specs.Prelude.{◌*◌, ◌||◌, ◌∷◌, ◌≡◌}
+use Rattle.std.specs.Prelude.{◌*◌, ◌||◌, ◌∷◌, ◌≡◌, Err}
 use Rattle.common.specs.Words.{ℕ, cond, not, List, [], leb, ltb, eqb, length}
 use Rattle.model.specs.Model.{wanted_until}
 use Rattle.plan.specs.Limits.{last_tick, payload_bytes, slot_bytes}
 use Rattle.plan.specs.Plan.{queue_at, slots_of}
 use Rattle.plan.specs.Says.{no}
 use Rattle.plan.specs.Rules.{sound_plan, connected}
-use Rattle.mailbox.specs.Types.{Plan, State, Started, Sent, Received}
+use Rattle.mailbox.specs.Types.{Plan, clear, State, Received}
 use Rattle.timing.specs.Timing.{sent_already}
 use Rattle.running.specs.Calls as running
 use Rattle.mailbox.specs.Calls.{start_lines, start_answer, send_lines, running_job, running_deadline, running_number, slot_in, unsent_at, send_answer}
@@ -20,7 +20,7 @@ pub start_says : (p : Plan) (m : List ℕ) →
     (cond (ltb (length m) (slots_of p * slot_bytes)) (no 8)
     (0x81, []))
 unfolding start_answer
-start_says p m = judged_map started_says (start_lines p m) Started.Refused Started.Ready
+start_says p m = judged_map started_says (start_lines p m) Err clear
 
 pub send_says_lem : (s : State) (p : Plan) (m : List ℕ) (q i t : ℕ) (payload : List ℕ) →
     let n = running_number (queue_at p q) i t in
@@ -35,7 +35,7 @@ pub send_says_lem : (s : State) (p : Plan) (m : List ℕ) (q i t : ℕ) (payload
     (cond (sent_already (unsent_at s q i) (running_job (queue_at p q) i t)) (no 13)
     (0x84, n ∷ slot_in p q n ∷ []))))))))
 unfolding running.send_answer
-send_says_lem s p m q i t payload = judged_map sent_says (send_lines s p m q i t payload) Sent.Refused _
+send_says_lem s p m q i t payload = judged_map sent_says (send_lines s p m q i t payload) Err _
 
 pub receive_says_lem : (s : State) (p : Plan) (m : List ℕ) (q t : ℕ) →
     received_says (look s p m q t)

@@ -9,7 +9,8 @@ pub mod receive; // receive.rt: receive
 
 use calendar::Tick;
 use plan::Plan;
-pub use running::{Received, Sent, Started};
+use plan::refusal::Refusal;
+pub use running::{Received, Stored};
 
 // What the calls remember from one to the next. It is handed in and comes back by value.
 #[derive(Clone, Copy)]
@@ -24,13 +25,13 @@ pub struct State {
 
 #[derive(Drop)]
 pub struct Starting {
-    pub answer: Started,
+    pub answer: Result<(), Refusal>,
     pub state: State,
 }
 
 #[derive(Drop)]
 pub struct Sending {
-    pub answer: Sent,
+    pub answer: Result<Stored, Refusal>,
     pub state: State,
 }
 

@@ -3,6 +3,7 @@ ghost use Rattle.mailbox.specs.Calls.{ReceiveGives};
 
 use crate::{Receiving, State};
 use calendar::Tick;
+use judge::Tested;
 use plan::Plan;
 
 impl State {
@@ -10,31 +11,21 @@ impl State {
     pub fn receive(mut self, plan: Plan, memory: &[u8], queue: usize, at: Tick) -> Receiving
         ensures { ReceiveGives self plan memory.now queue at.0 result }
     {
-        let sound = soundness::sound(plan);
-        let before = self.tick;
-        let done = receiving::receive_on(
-            sound,
-            &plan.sends,
-            &plan.period,
-            &plan.deadline,
-            &plan.priority,
-            &plan.receiver,
-            &plan.size,
-            &plan.place,
-            plan.tasks,
-            plan.queues,
+        let tested = Tested {
+            sound: soundness::sound(&plan),
+            plan: &plan,
+        };
+        let looked = receiving::receive_on(
+            tested,
             memory,
+            &mut self.tick,
             &mut self.reading,
             queue,
             at,
-            before,
-            window::nothing(),
+            None,
         );
-        let answer = done.answer;
-        let tick = done.tick;
-        self.tick = tick;
         Receiving {
-            answer,
+            answer: looked.answer,
             state: self,
         }
     }

@@ -3,6 +3,7 @@ ghost use Rattle.mailbox.specs.Calls.{SendGives};
 
 use crate::{Sending, State};
 use calendar::Tick;
+use judge::Tested;
 use plan::Plan;
 
 impl State {
@@ -18,30 +19,20 @@ impl State {
     ) -> Sending
         ensures { SendGives self plan memory.old queue task at.0 payload.now result memory.new }
     {
-        let sound = soundness::sound(plan);
-        let before = self.tick;
-        let done = sending::send_on(
-            sound,
-            &plan.sends,
-            &plan.period,
-            &plan.deadline,
-            &plan.priority,
-            &plan.receiver,
-            &plan.size,
-            &plan.place,
-            plan.tasks,
-            plan.queues,
+        let tested = Tested {
+            sound: soundness::sound(&plan),
+            plan: &plan,
+        };
+        let answer = sending::send_on(
+            tested,
             memory,
+            &mut self.tick,
             &mut self.sent,
             queue,
             task,
             at,
             payload,
-            before,
         );
-        let answer = done.answer;
-        let tick = done.tick;
-        self.tick = tick;
         Sending {
             answer,
             state: self,

@@ -2,22 +2,24 @@
 -- another, and where every answer could be written no byte of the block is left. Leans on feed's answers to lines.
 use Rattle.std.specs.Prelude.{◌<◌, ◌≤◌, ◌≡◌}
 use Rattle.common.specs.Words.{ℕ, true, List, [], length, take}
-use Rattle.feed.specs.Answers.{Console, console_of, console_after}
+use Rattle.blocks.specs.declared.Stream.{Stream}
+use Rattle.blocks.specs.Stream.{is_open}
+use Rattle.feed.specs.Answers.{Console, console_after}
 use Rattle.lines.specs.Lines.{fed, ended}
-use Rattle.mulchpenny.specs.declared.Turn.{Turn}
 
 -- from the console w and the carry c, the text x comes to this console and this carry
 pub record Comes (w : Console) (c x : List ℕ) (w' : Console) (carry : List ℕ) : Type 0 where
   pub console : w' ≡ console_after w (fed c x).lines
   pub carried : carry ≡ (fed c x).carry
 
-pub record BlockGives (w : Console) (c piece : List ℕ) (t : Turn) (memory held : List ℕ) : Type 0 where
-  pub inside : t.next ≤ length piece
-  pub comes : Comes w c (take t.next piece) (console_of t.desk memory) (take t.used held)
-  pub whole : t.stream.is_open ≡ true → t.next ≡ length piece
-  pub moves : 0 < length piece → 0 < t.next
+-- a block from the console w and the carry c on: where it stopped, the console and the carry after it, and the stream
+pub record BlockGives (w : Console) (c piece : List ℕ) (at : ℕ) (w' : Console) (carry : List ℕ) (s : Stream) : Type 0 where
+  pub inside : at ≤ length piece
+  pub comes : Comes w c (take at piece) w' carry
+  pub whole : is_open s ≡ true → at ≡ length piece
+  pub moves : 0 < length piece → 0 < at
 
 -- the end of the input: a last line without its end is taken as a line, and nothing of it is left
-pub record LastGives (w : Console) (c : List ℕ) (t : Turn) (memory held : List ℕ) : Type 0 where
-  pub console : console_of t.desk memory ≡ console_after w (ended c)
-  pub nothing_left : take t.used held ≡ []
+pub record LastGives (w : Console) (c : List ℕ) (w' : Console) (carry : List ℕ) : Type 0 where
+  pub console : w' ≡ console_after w (ended c)
+  pub nothing_left : carry ≡ []

@@ -9,8 +9,11 @@ use Rattle.feed.specs.Session.{answered_append, feed_answered}
 use Rattle.feed.specs.declared.Fed.{Fed}
 use Rattle.lines.specs.Lines.{line_feed, fed}
 use Rattle.lines.specs.Whole.{end_fed}
+use Rattle.lines.specs.declared.Carry.{Carry}
+use Rattle.lines.specs.Carried.{carried}
+use Rattle.desk.specs.declared.Desk.{Desk}
+use Rattle.blocks.specs.declared.Stream.{Stream}
 use Rattle.mulchpenny.specs.Block.{Comes, BlockGives, LastGives}
-use Rattle.mulchpenny.specs.declared.Turn.{Turn}
 
 pub comes_none : (w : Console) (c piece : List ℕ) → Comes w c (take 0 piece) w c
 unfolding console_after fed
@@ -23,21 +26,21 @@ take_on xs i n h =
 
 -- a call of feed goes on from where the block was left
 pub comes_on :
-    {w : Console} {c : List ℕ} (v : Console) (held : List ℕ) (u : ℕ) (piece : List ℕ) (at : ℕ) (out : List ℕ)
-    {held₀ out₀ : List ℕ} {r : Fed} {m h o : List ℕ} → at ≤ length piece → Comes w c (take at piece) v (take u held) →
-    Outcome (fed_from v held u piece at out) piece at held₀ out₀ r m h o →
-    Comes w c (take r.next piece) (console_of r.desk m) (take r.used h)
-comes_on {w} {c} v held u piece at out i a f =
-    let g = fed_from v held u piece at out in
-    let before : Feeding = record { console = v; carry = take u held; taken = at; answers = answers_to w (fed c (take at piece)).lines } in
+    {w : Console} {c : List ℕ} (v : Console) (carry piece : List ℕ) (at : ℕ)
+    (out : List ℕ) {out₀ : List ℕ} {r : Fed} {d : Desk} {m : List ℕ}
+    {k : Carry} {o : List ℕ} → at ≤ length piece → Comes w c (take at piece) v carry →
+    Outcome (fed_from v carry piece at out) piece at out₀ r d m k o → Comes w c (take r.next piece) (console_of d m) (carried k)
+comes_on {w} {c} v carry piece at out i a f =
+    let g = fed_from v carry piece at out in
+    let before : Feeding = record { console = v; carry = carry; taken = at; answers = answers_to w (fed c (take at piece)).lines } in
     let b = answered_append w c (take at piece) (take g.taken (drop at piece)) before g
-    (record { console = a.console; answers = refl; carry = a.carried }) (feed_answered v (take u held) (drop at piece) (length out)) in
+    (record { console = a.console; answers = refl; carry = a.carried }) (feed_answered v carry (drop at piece) (length out)) in
     let e = take_on piece at g.taken i in
-    rw (f.carry_is, f.memory_is, f.result) (record { console = rw e at b.console; carried = rw e at b.carry })
+    rw (f.carry_is, f.desk_is, f.memory_is, f.result) (record { console = rw e at b.console; carried = rw e at b.carry })
 
 -- the end of a line as a block is all used, so it is one line more
-pub last_block : {w : Console} {c : List ℕ} {t : Turn} {m h : List ℕ} → 0 < length c → BlockGives w c (line_feed ∷ []) t m h →
-    LastGives w c t m h
-last_block {w} {c} {t} l b =
-    let n : t.next ≡ 1 = omega (arith, b.inside, b.moves (omega arith)) in
+pub last_block : {w : Console} {c : List ℕ} {at : ℕ} {w' : Console} {carry : List ℕ} {s : Stream} → 0 < length c →
+    BlockGives w c (line_feed ∷ []) at w' carry s → LastGives w c w' carry
+last_block {w} {c} {at} l b =
+    let n : at ≡ 1 = omega (arith, b.inside, b.moves (omega arith)) in
     record { console = rw (n, end_fed c l) at b.comes.console; nothing_left = rw (n, end_fed c l) at b.comes.carried }

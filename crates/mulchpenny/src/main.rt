@@ -4,15 +4,17 @@
 #![tactic(auto)]
 
 ghost use Rattle.std.specs.Prelude.{◌≡◌, ◌<◌, ◌≤◌};
-ghost use Rattle.common.specs.Words.{false, length, take};
+ghost use Rattle.common.specs.Words.{false, length};
+ghost use Rattle.blocks.specs.Stream.{Gone, is_open};
 ghost use Rattle.desk.specs.Desk.{SoundDesk};
 ghost use Rattle.feed.specs.Feed.{enough};
 ghost use Rattle.feed.specs.Answers.{console_of};
-ghost use Rattle.lines.specs.Lines.{carry_limit};
+ghost use Rattle.lines.specs.Carried.{carried};
 ghost use Rattle.mulchpenny.specs.Block.{BlockGives, LastGives};
 
 use blocks::Stream;
 use desk::Desk;
+use lines::Carry;
 use plan::Plan;
 use std::io::{Stdin, Stdout};
 
@@ -21,82 +23,50 @@ const MEMORY: usize = Plan::MOST_SLOTS * Plan::SLOT_BYTES;
 // A block, and the answers to it that are written at once.
 const BLOCK: usize = 65_536;
 
-// The desk after a block, how much of a line is carried over, where in the block it stopped, and the stream, which is closed where the
-// answers could not be written.
-#[derive(Drop)]
-struct Turn {
-    desk: Desk,
-    used: usize,
-    next: usize,
-    stream: Stream,
-}
-
-// Answers the lines that end in a block: all of them, unless the answers cannot be written.
+// Answers the lines that end in a block: all of them, unless the answers cannot be written, which closes the stream. Answers where in the
+// block it stopped.
 fn answer_block(
     stdout: Stdout,
-    desk: Desk,
+    desk: &mut Desk,
     memory: &mut [u8],
-    held: &mut [u8],
-    used: usize,
+    carry: &mut Carry,
     piece: &[u8],
     out: &mut [u8],
-    stream: Stream,
-) -> Turn
-    requires { (used ≤ carry_limit) × (carry_limit ≤ length held.old) × (enough ≤ length out.old) × SoundDesk desk }
-    ensures block_gives { BlockGives (console_of desk memory.old) (take used held.old) piece.now
-        result memory.new held.new }
-    ensures used_le_carry_limit { (result.used ≤ carry_limit) × SoundDesk result.desk × (result.stream.left ≡ stream.left) }
+    stream: &mut Stream,
+) -> usize
+    requires { (enough ≤ length out.old) × SoundDesk desk.old }
+    ensures block_gives { BlockGives (console_of desk.old memory.old) (carried carry.old) piece.now
+        result (console_of desk.new memory.new) (carried carry.new) stream.new }
+    ensures goes_on { SoundDesk desk.new × Gone stream.old stream.new }
 {
-    let mut d = desk;
-    let mut u = used;
     let mut at: usize = 0;
-    let mut s = stream;
     while at < piece.len() {
-        let f = feed::feed(d, memory, held, u, piece, at, out);
-        d = f.desk;
-        u = f.used;
-        at = f.next;
-        s = s.write_answers(stdout, out, f.written);
-        if !s.goes_on() {
-            return Turn {
-                desk: d,
-                used: u,
-                next: at,
-                stream: s,
-            };
+        let fed = feed::feed(desk, memory, carry, piece, at, out);
+        at = fed.next;
+        stream.write_answers(stdout, &out[..fed.written]);
+        if !stream.goes_on() {
+            return at;
         }
     }
-    Turn {
-        desk: d,
-        used: u,
-        next: at,
-        stream: s,
-    }
+    at
 }
 
 // Answers a last line without its end, as if its end had come: where a byte of it came, one line end more is a block.
 fn answer_last(
     stdout: Stdout,
-    desk: Desk,
+    desk: &mut Desk,
     memory: &mut [u8],
-    held: &mut [u8],
-    used: usize,
+    carry: &mut Carry,
     out: &mut [u8],
-    stream: Stream,
-) -> Turn
-    requires { (used ≤ carry_limit) × (carry_limit ≤ length held.old) × (enough ≤ length out.old) × SoundDesk desk }
-    ensures { LastGives (console_of desk memory.old) (take used held.old) result
-        memory.new held.new }
+    mut stream: Stream,
+)
+    requires { (enough ≤ length out.old) × SoundDesk desk.old }
+    ensures { LastGives (console_of desk.old memory.old) (carried carry.old) (console_of desk.new memory.new) (carried carry.new) }
 {
-    if used == 0 {
-        return Turn {
-            desk,
-            used,
-            next: 0,
-            stream,
-        };
+    if carry.used == 0 {
+        return;
     }
-    answer_block(stdout, desk, memory, held, used, b"\n", out, stream)
+    answer_block(stdout, desk, memory, carry, b"\n", out, &mut stream);
 }
 
 // Answers the whole input, block by block, until the stream is closed.
@@ -104,43 +74,36 @@ fn answer_all(
     stdin: Stdin,
     stdout: Stdout,
     memory: &mut [u8],
-    held: &mut [u8],
     piece: &mut [u8],
     out: &mut [u8],
 ) -> Stream
-    requires { (carry_limit ≤ length held.old) × (0 < length piece.old) × (enough ≤ length out.old) }
-    ensures { result.is_open ≡ false }
+    requires { (0 < length piece.old) × (enough ≤ length out.old) }
+    ensures { is_open result ≡ false }
 {
-    let mut d = Desk::new();
-    let mut u: usize = 0;
-    let mut s = Stream::open();
-    while s.goes_on() {
-        let r = s.read_block(stdin, piece);
-        s = r.stream;
-        let n = r.bytes;
-        if n == 0 {
-            answer_last(stdout, d, memory, held, u, out, s);
-            return s;
-        }
-        let t = answer_block(stdout, d, memory, held, u, &piece[..n], out, s);
-        d = t.desk;
-        u = t.used;
-        s = t.stream;
+    let mut desk = Desk::new();
+    let mut carry = Carry::new();
+    let mut stream = Stream::open();
+    while stream.goes_on() {
+        let Some(n) = stream.read_block(stdin, piece) else {
+            answer_last(stdout, &mut desk, memory, &mut carry, out, stream);
+            return stream;
+        };
+        answer_block(
+            stdout,
+            &mut desk,
+            memory,
+            &mut carry,
+            &piece[..n],
+            out,
+            &mut stream,
+        );
     }
-    s
+    stream
 }
 
 fn main(rt: HostRuntime) {
     let mut memory = [0u8; MEMORY];
-    let mut held = [0u8; lines::CARRY_LIMIT];
     let mut piece = [0u8; BLOCK];
     let mut out = [0u8; BLOCK];
-    answer_all(
-        rt.stdin(),
-        rt.stdout(),
-        &mut memory,
-        &mut held,
-        &mut piece,
-        &mut out,
-    );
+    answer_all(rt.stdin(), rt.stdout(), &mut memory, &mut piece, &mut out);
 }

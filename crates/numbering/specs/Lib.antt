@@ -1,3 +1,2 @@
 -- The pages of this crate's definitions and laws.
-pub mod Bounds
 pub mod Origin

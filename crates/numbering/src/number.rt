@@ -1,66 +1,39 @@
-// Equation 1, equation 2, and the numbers that bound a window, of a plan's queue. Callers have tested the plan (`Usable`) and stay within
-// the last tick.
+// Equation 2, and the numbers that bound a window, of a plan's queue. Callers have tested the plan (`Usable`) and stay within the last tick.
 ghost use Rattle.std.specs.Prelude.{◌≡◌, ◌≤◌};
-ghost use Rattle.model.specs.Model.{Sender, deadline_of, released, receiver_period, up_to, number, first, last};
+ghost use Rattle.model.specs.Model.{Sender, deadline_of, released, receiver_period, number, first, last};
 ghost use Rattle.calendar.specs.Calendar.{message};
 ghost use Rattle.plan.specs.Limits.{last_tick};
 ghost use Rattle.plan.specs.Plan.{queue_at, Usable};
 
-use calendar::{Job, Number, Tick};
-use counting::count;
+use calendar::{Job, Number};
+use counting::count::up_to;
 use plan::Plan;
 
-// The messages of a queue with deadlines up to a tick.
-pub fn up_to(plan: Plan, queue: usize, at: Tick) -> u64
-    requires { Usable plan queue × (at.0 ≤ last_tick) }
-    ensures { result ≡ up_to (queue_at plan queue) at.0 }
-{
-    count::up_to(
-        &plan.sends,
-        &plan.period,
-        &plan.deadline,
-        plan.tasks,
-        queue,
-        at,
-    )
-}
-
 // The number of the message that a task's job sends.
-pub fn number_at(plan: Plan, queue: usize, task: usize, job: Job) -> Number
-    requires { Usable plan queue × Sender (queue_at plan queue) task × (deadline_of (queue_at plan queue) task job.0 ≤ last_tick) }
-    ensures { result ≡ message (number (queue_at plan queue) task job.0) }
+pub fn number_at(plan: &Plan, queue: usize, task: usize, job: Job) -> Number
+    requires { Usable plan.now queue × Sender (queue_at plan.now queue) task
+        × (deadline_of (queue_at plan.now queue) task job.0 ≤ last_tick) }
+    ensures { result ≡ message (number (queue_at plan.now queue) task job.0) }
 {
     let at = calendar::deadline_of(plan.period[task], plan.deadline[task], job);
-    counting::number::number_due(
-        &plan.sends,
-        &plan.period,
-        &plan.deadline,
-        &plan.priority,
-        plan.tasks,
-        queue,
-        at,
-        task,
-    )
+    counting::number::number_due(plan, queue, at, task)
 }
 
 // The last number of the window of a receiver's job.
-pub fn last_number(plan: Plan, queue: usize, job: Job) -> Number
-    requires { Usable plan queue × (released (receiver_period (queue_at plan queue)) job.0 ≤ last_tick) }
-    ensures { result ≡ message (last (queue_at plan queue) job.0) }
+pub fn last_number(plan: &Plan, queue: usize, job: Job) -> Number
+    requires { Usable plan.now queue × (released (receiver_period (queue_at plan.now queue)) job.0 ≤ last_tick) }
+    ensures { result ≡ message (last (queue_at plan.now queue) job.0) }
 {
     let receiver = plan.receiver[queue];
     let at = calendar::release_of(plan.period[receiver], job);
     Number(up_to(plan, queue, at))
 }
 
-// The first number of that window: one more than the last of the job before.
-pub fn first_number(plan: Plan, queue: usize, job: Job) -> Number
-    requires { Usable plan queue × (released (receiver_period (queue_at plan queue)) job.0 ≤ last_tick) }
-    ensures { result ≡ message (first (queue_at plan queue) job.0) }
+// The first number of that window: one more than the last of the job before. There is no message before job 0.
+pub fn first_number(plan: &Plan, queue: usize, job: Job) -> Number
+    requires { Usable plan.now queue × (released (receiver_period (queue_at plan.now queue)) job.0 ≤ last_tick) }
+    ensures { result ≡ message (first (queue_at plan.now queue) job.0) }
 {
-    if job.0 == 0 {
-        return Number(1);
-    }
-    let before = last_number(plan, queue, Job(job.0 - 1));
+    let before = last_number(plan, queue, Job(job.0.saturating_sub(1)));
     Number(before.0 + 1)
 }

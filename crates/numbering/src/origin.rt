@@ -19,39 +19,21 @@ pub struct Origin {
 }
 
 // The job of a task that has its deadline at this tick.
-fn job_due(plan: Plan, at: Tick, task: usize) -> Job
-    requires { (task < task_limit) × (1 ≤ get_or plan.period task 0) × (get_or plan.deadline task 0 ≤ at.0) }
-    ensures { result ≡ job ((at.0 - get_or plan.deadline task 0) / get_or plan.period task 0) }
+fn job_due(plan: &Plan, at: Tick, task: usize) -> Job
+    requires { (task < task_limit) × (1 ≤ get_or plan.now.period task 0) × (get_or plan.now.deadline task 0 ≤ at.0) }
+    ensures { result ≡ job ((at.0 - get_or plan.now.deadline task 0) / get_or plan.now.period task 0) }
 {
     let release = Tick(at.0 - plan.deadline[task]);
     calendar::job_at(plan.period[task], release)
 }
 
 // The sender and the job of message n.
-pub fn origin_of(plan: Plan, queue: usize, n: Number) -> Origin
-    requires { Usable plan queue × (1 ≤ n.0) × (n.0 ≤ up_to (queue_at plan queue) last_tick) }
-    ensures { result ≡ origin_of (queue_at plan queue) n.0 }
+pub fn origin_of(plan: &Plan, queue: usize, n: Number) -> Origin
+    requires { Usable plan.now queue × (1 ≤ n.0) × (n.0 ≤ up_to (queue_at plan.now queue) last_tick) }
+    ensures { result ≡ origin_of (queue_at plan.now queue) n.0 }
 {
-    let at = counting::sender::tick_between(
-        &plan.sends,
-        &plan.period,
-        &plan.deadline,
-        plan.tasks,
-        queue,
-        n,
-        Tick(0),
-        Tick(Plan::LAST_TICK),
-    );
-    let task = counting::sender::sender_at(
-        &plan.sends,
-        &plan.period,
-        &plan.deadline,
-        &plan.priority,
-        plan.tasks,
-        queue,
-        n,
-        at,
-    );
+    let at = counting::sender::tick_between(plan, queue, n, Tick(0), Tick(Plan::LAST_TICK));
+    let task = counting::sender::sender_at(plan, queue, n, at);
     Origin {
         task,
         job: job_due(plan, at, task),

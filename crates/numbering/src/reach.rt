@@ -22,17 +22,17 @@ fn past_last(period: u64, span: u64, job: Job) -> bool
 }
 
 // Whether the deadline of a task's job is past the last tick.
-pub fn deadline_past(plan: Plan, queue: usize, task: usize, job: Job) -> bool
-    requires { Usable plan queue × (task < plan.tasks) }
-    ensures { result ≡ ltb last_tick (deadline_of (queue_at plan queue) task job.0) }
+pub fn deadline_past(plan: &Plan, queue: usize, task: usize, job: Job) -> bool
+    requires { Usable plan.now queue × (task < plan.now.tasks) }
+    ensures { result ≡ ltb last_tick (deadline_of (queue_at plan.now queue) task job.0) }
 {
     past_last(plan.period[task], plan.deadline[task], job)
 }
 
 // Whether the release of a job of the queue's receiver is past the last tick.
-pub fn release_past(plan: Plan, queue: usize, job: Job) -> bool
-    requires { Usable plan queue }
-    ensures { result ≡ ltb last_tick (released (receiver_period (queue_at plan queue)) job.0) }
+pub fn release_past(plan: &Plan, queue: usize, job: Job) -> bool
+    requires { Usable plan.now queue }
+    ensures { result ≡ ltb last_tick (released (receiver_period (queue_at plan.now queue)) job.0) }
 {
     let receiver = plan.receiver[queue];
     past_last(plan.period[receiver], 0, job)

@@ -1,10 +1,13 @@
 -- Laws of other declarations: what the code does token by token is what the rule says, and how far it goes.
-use Rattle.std.specs.Prelude.{◌<◌, ◌∷◌, ◌≡◌, ◌&&◌, ◌⊎◌}
-use Rattle.common.specs.Words.{ℕ, arith, Bool, true, false, true≢false, List, [], refl, sym, ap, ◌∙◌, eq-eqb, ne_eqb, inl, inr}
-use Rattle.words.specs.Kinds.{ENDED, END, SEMICOLON, APPLIES}
+use Rattle.steps.specs.declared.faults.Rule.TheVariants.{Unfit}
+use Rattle.words.specs.Same.{kind_differs}
+use Rattle.words.specs.declared.kinds.Kind.{Kind}
+use Rattle.std.specs.Prelude.{◌<◌, ◌∷◌, ◌≡◌, ◌&&◌, Option, Some}
+use Rattle.common.specs.Words.{ℕ, arith, Bool, true, false, true≢false, List, [], refl, sym, ap, ◌∙◌}
+use Rattle.words.specs.Kinds.{ENDED, END, SEMICOLON}
 use Rattle.tokens.specs.Tokens.{Token}
 use Rattle.tokens.specs.Laws.{cases}
-use Rattle.steps.specs.declared.Fault.{Fault}
+use Rattle.steps.specs.declared.faults.Fault.{Fault}
 use Rattle.steps.specs.Faults.{fault, no_fault, worse, worst}
 use Rattle.steps.specs.Steps.{Step, On, Stop, ◌⟫◌, next, any, the}
 use Rattle.steps.specs.Lifted.{first, first_kind, second_kind, size}
@@ -17,7 +20,7 @@ use Rattle.rows.specs.Said.{Said, quiet, ◌⨟◌}
 use Rattle.rows.specs.States.{State, state, reading, does}
 use Rattle.properties.specs.Properties.{from_outside}
 use Rattle.rows.specs.Laws.{MovesOn, moved_onward, moves_quiet, by_went, does_then, does_then_at, worst_append}
-use Rattle.others.specs.Others.{outside_kind, reaching, waiting_after, noted_at, last_kind, passing, path_end, other}
+use Rattle.others.specs.Others.{outside_kind, reaching, ends_waiting, waiting_after, noted_at, last_kind, passing, path_end, other}
 
 -- the same reading, with these notes
 abbrev pub noted_with : Reading → List Fault → Reading
@@ -30,12 +33,12 @@ unfolding last_kind
 last_ended = refl
 
 -- one that does not end it is not the text's end
-real : (k : ℕ) → last_kind k ≡ false → k ≡ ENDED → ⊥
+real : (k : Kind) → last_kind k ≡ false → k ≡ ENDED → ⊥
 real k h e = true≢false (sym last_ended ∙ ap last_kind (sym e) ∙ h)
 
 any_one : (k : Token) (ts : List Token) → last_kind k.kind ≡ false → any (k ∷ ts) ≡ On ts
 unfolding any
-any_one k ts h = rw (ne_eqb k.kind ENDED (real k.kind h))
+any_one k ts h = rw (kind_differs k.kind ENDED (real k.kind h))
 
 module _ (outside : Bool) (w : List Fault) where
   abbrev pub waits : Step → List Fault
@@ -51,7 +54,7 @@ module _ (outside : Bool) (w : List Fault) where
       ≡ does s (passing outside w))
       go (λ f qs x t h. absurd (true≢false (sym last_ended ∙ h))) s
     where
-      go : (ts : List Token) (qs : List ℕ) (x : Fault) (t : Store) → last_kind (next ts) ≡ false →
+      go : (ts : List Token) (qs : List ℕ) (x : Option Fault) (t : Store) → last_kind (next ts) ≡ false →
           does (state (any ts) qs (worst x (noted_at w (next ts))) t) (passing outside (waits (On ts)))
           ≡ does (state (On ts) qs x t) (passing outside w)
       go [] qs x t h = absurd (true≢false (sym last_ended ∙ h))
@@ -63,7 +66,7 @@ module _ (outside : Bool) (w : List Fault) where
   passing_off s =
       by_went (λ (s : State). last_kind (first_kind s.went) ≡ true → s ≡ does s (passing outside w)) go (λ f qs x t h. refl) s
     where
-      go : (ts : List Token) (qs : List ℕ) (x : Fault) (t : Store) → last_kind (next ts) ≡ true →
+      go : (ts : List Token) (qs : List ℕ) (x : Option Fault) (t : Store) → last_kind (next ts) ≡ true →
           state (On ts) qs x t ≡ does (state (On ts) qs x t) (passing outside w)
       go [] qs x t h = refl
       go (k ∷ ts) qs x t h = rw h
@@ -74,20 +77,19 @@ passing_less (On (k ∷ ts)) h = rw (any_one k ts h) (omega arith)
 passing_less (Stop f) h = absurd (true≢false (sym last_ended ∙ h))
 
 -- the least of those that wait, as the code knows it
-module _ (o : Bool) (w : List Fault) (v : Fault) (e : v ≡ worst no_fault w) (k l i : ℕ) where
-  pub waits_none : (k ≡ APPLIES) ⊎ (k ≡ SEMICOLON) → no_fault ≡ worst no_fault (waiting_after o w k l i)
+module _ (o : Bool) (w : List Fault) (v : Option Fault) (e : v ≡ worst no_fault w) (k l : Kind) (i : ℕ) where
+  pub waits_none : ends_waiting k ≡ true → no_fault ≡ worst no_fault (waiting_after o w k l i)
   unfolding waiting_after worst
-  waits_none (inl x) = rw (eq-eqb k APPLIES x)
-  waits_none (inr x) = rw x
+  waits_none h = rw h
 
-  module _ (a : k ≡ APPLIES → ⊥) (b : k ≡ SEMICOLON → ⊥) where
-    pub waits_same : (o && reaching k l) ≡ false → v ≡ worst no_fault (waiting_after o w k l i)
-    unfolding waiting_after
-    waits_same h = rw (ne_eqb k APPLIES a, ne_eqb k SEMICOLON b, h) e
+  pub waits_same : ends_waiting k ≡ false → (o && reaching k l) ≡ false → v ≡ worst no_fault (waiting_after o w k l i)
+  unfolding waiting_after
+  waits_same d h = rw (d, h) e
 
-    pub waits_more : (o && reaching k l) ≡ true → worse v (fault 20 i from_outside) ≡ worst no_fault (waiting_after o w k l i)
-    unfolding waiting_after worst
-    waits_more h = rw (ne_eqb k APPLIES a, ne_eqb k SEMICOLON b, h, e) (sym (worst_append no_fault w (fault 20 i from_outside ∷ [])))
+  pub waits_more : ends_waiting k ≡ false → (o && reaching k l) ≡ true →
+      worse v (Some (fault Unfit i from_outside)) ≡ worst no_fault (waiting_after o w k l i)
+  unfolding waiting_after worst
+  waits_more d h = rw (d, h, e) (sym (worst_append no_fault w (fault Unfit i from_outside ∷ [])))
 
 -- ## In a row
 
@@ -115,12 +117,12 @@ unfolding passing
 passing_moves o w ps [] = went (goes_none [])
 passing_moves o w ps (k ∷ ts) =
     cases (λ (s : Said). Moved 0 (k ∷ ts) s.went) (last_kind k.kind) (λ _. went (goes_none (k ∷ ts)))
-    (λ h. let one : Moved 1 (k ∷ ts) (On ts) = rw (any_one k ts h) at (moved_any (k ∷ ts) (real k.kind h)) in
+    (λ h. let one : Moved 1 (k ∷ ts) (On ts) = rw (any_one k ts h) at (moved_any (k ∷ ts) (kind_differs k.kind ENDED (real k.kind h))) in
     behind one (passing_moves o (waiting_after o w k.kind (next ts) k.start) ps ts))
 
 pub path_end_moves : Moves 3 path_end
 unfolding path_end
-path_end_moves ts = moved_then (moved_then (moves_the END (λ e. omega arith) ts) path_moves) (moves_the SEMICOLON (λ e. omega arith))
+path_end_moves ts = moved_then (moved_then (moves_the END refl ts) path_moves) (moves_the SEMICOLON refl)
 
 pub other_moves : MovesOn 3 other
 unfolding other

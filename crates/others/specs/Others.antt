@@ -1,10 +1,14 @@
 -- AADL.md, sections 2 to 4: other declarations, which are skipped, and the properties in them that would reach a thread from outside.
+use Rattle.steps.specs.declared.faults.Rule.TheVariants.{Unfit}
+use Rattle.words.specs.Same.{same_kind}
+use Rattle.words.specs.declared.kinds.Kind.{Kind}
 use Rattle.std.specs.Prelude.{◌&&◌, ◌∷◌, ◌++◌}
-use Rattle.common.specs.Words.{ℕ, Bool, true, false, cond, List, [], eqb, leb}
-use Rattle.words.specs.Kinds.{ENDED, END, SEMICOLON, APPLIES, BECOMES, ADDS, PERIOD, PRIORITY, ABSTRACT, BUS, DATA, DEVICE, FEATURE, MEMORY, PROCESS}
+use Rattle.common.specs.Words.{ℕ, Bool, true, false, cond, List, []}
+use Rattle.words.specs.Kinds.{ENDED, END, SEMICOLON, APPLIES, BECOMES, ADDS, PERIOD, DEADLINE, DISPATCH_PROTOCOL, DISPATCH_OFFSET, PRIORITY}
+use Rattle.words.specs.Kinds.{ABSTRACT, BUS, DATA, DEVICE, FEATURE, MEMORY, PROCESS}
 use Rattle.words.specs.Kinds.{PROCESSOR, PROPERTY, SUBPROGRAM, SYSTEM, VIRTUAL}
 use Rattle.tokens.specs.Tokens.{Token}
-use Rattle.steps.specs.declared.Fault.{Fault}
+use Rattle.steps.specs.declared.faults.Fault.{Fault}
 use Rattle.steps.specs.Faults.{fault}
 use Rattle.steps.specs.Steps.{Step, On, ◌⟫◌, next, any, the}
 use Rattle.phrases.specs.Phrases.{path}
@@ -12,43 +16,53 @@ use Rattle.rows.specs.Said.{said, Rule, quiet, ◌⨟◌}
 use Rattle.properties.specs.Properties.{from_outside}
 
 -- "other: abstract, bus, data, .." (thread where "group" follows is told by the declaration's choice)
-unfoldable pub other_kind : ℕ → Bool
+unfoldable pub other_kind : Kind → Bool
 other_kind k =
-    cond (eqb k ABSTRACT) true
-    (cond (eqb k BUS) true
-    (cond (eqb k DATA) true
-    (cond (eqb k DEVICE) true
-    (cond (eqb k FEATURE) true
-    (cond (eqb k MEMORY) true
-    (cond (eqb k PROCESS) true
-    (cond (eqb k PROCESSOR) true
-    (cond (eqb k PROPERTY) true
-    (cond (eqb k SUBPROGRAM) true
-    (cond (eqb k SYSTEM) true
-    (cond (eqb k VIRTUAL) true false)))))))))))
+    cond (same_kind k ABSTRACT) true
+    (cond (same_kind k BUS) true
+    (cond (same_kind k DATA) true
+    (cond (same_kind k DEVICE) true
+    (cond (same_kind k FEATURE) true
+    (cond (same_kind k MEMORY) true
+    (cond (same_kind k PROCESS) true
+    (cond (same_kind k PROCESSOR) true
+    (cond (same_kind k PROPERTY) true
+    (cond (same_kind k SUBPROGRAM) true
+    (cond (same_kind k SYSTEM) true
+    (cond (same_kind k VIRTUAL) true false)))))))))))
 
 -- "an other that begins with process or system"
-unfoldable pub outside_kind : ℕ → Bool
-outside_kind k = cond (eqb k PROCESS) true (eqb k SYSTEM)
+unfoldable pub outside_kind : Kind → Bool
+outside_kind k = cond (same_kind k PROCESS) true (same_kind k SYSTEM)
 
--- "a word Period, Deadline, Dispatch_Protocol, Dispatch_Offset or Priority .. that `=>` or `+=>` follows directly"; their kinds stand side
--- by side
-unfoldable pub reaching : ℕ → ℕ → Bool
-reaching k l = cond (leb PERIOD k && leb k PRIORITY) (cond (eqb l BECOMES) true (eqb l ADDS)) false
+unfoldable pub reaches : Kind → Bool
+reaches k =
+    cond (same_kind k PERIOD) true
+    (cond (same_kind k DEADLINE) true
+    (cond (same_kind k DISPATCH_PROTOCOL) true
+    (cond (same_kind k DISPATCH_OFFSET) true (same_kind k PRIORITY))))
+
+unfoldable pub associates : Kind → Bool
+associates k = cond (same_kind k BECOMES) true (same_kind k ADDS)
+
+-- "a word Period, Deadline, Dispatch_Protocol, Dispatch_Offset or Priority .. that `=>` or `+=>` follows directly"
+unfoldable pub reaching : Kind → Kind → Bool
+reaching k l = reaches k && associates l
+
+unfoldable pub ends_waiting : Kind → Bool
+ends_waiting k = cond (same_kind k APPLIES) true (same_kind k SEMICOLON)
 
 -- such words, until "applies" comes, which notes them, or `;`
-unfoldable pub waiting_after : Bool → List Fault → ℕ → ℕ → ℕ → List Fault
+unfoldable pub waiting_after : Bool → List Fault → Kind → Kind → ℕ → List Fault
 waiting_after outside waiting k l place =
-    cond (eqb k APPLIES) []
-    (cond (eqb k SEMICOLON) []
-    (cond (outside && reaching k l) (waiting ++ fault 20 place from_outside ∷ []) waiting))
+    cond (ends_waiting k) [] (cond (outside && reaching k l) (waiting ++ fault Unfit place from_outside ∷ []) waiting)
 
-unfoldable pub noted_at : List Fault → ℕ → List Fault
-noted_at waiting k = cond (eqb k APPLIES) waiting []
+unfoldable pub noted_at : List Fault → Kind → List Fault
+noted_at waiting k = cond (same_kind k APPLIES) waiting []
 
 -- what ends an other
-unfoldable pub last_kind : ℕ → Bool
-last_kind k = cond (eqb k END) true (eqb k ENDED)
+unfoldable pub last_kind : Kind → Bool
+last_kind k = cond (same_kind k END) true (same_kind k ENDED)
 
 -- "any tokens up to the first "end"", with what is noted on the way
 unfoldable pub passing : Bool → List Fault → Rule

@@ -3,7 +3,7 @@ use Rattle.std.specs.Prelude.{◌∷◌, ◌≡◌}
 use Rattle.common.specs.Words.{ℕ, Bool, List, [], refl}
 use Rattle.tokens.specs.Tokens.{Token}
 use Rattle.tokens.specs.Laws.{cases}
-use Rattle.steps.specs.declared.Fault.{Fault}
+use Rattle.steps.specs.declared.faults.Fault.{Fault}
 use Rattle.steps.specs.Steps.{next}
 use Rattle.steps.specs.Laws.{moves_any}
 use Rattle.rows.specs.Said.{Said, quiet}

@@ -3,139 +3,115 @@
 
 ghost use Rattle.std.specs.Prelude.{◌≡◌};
 ghost use Rattle.common.specs.Words.{ℕ, List, [], not};
-ghost use Rattle.steps.specs.declared.Fault.{Fault};
+ghost use Rattle.steps.specs.declared.faults.Fault.{Fault};
 ghost use Rattle.steps.specs.Faults.{no_fault, worst};
 ghost use Rattle.steps.specs.Steps.{◌⟫◌};
 ghost use Rattle.steps.specs.Lifted.{lift, first, first_kind, second_kind};
 ghost use Rattle.rows.specs.States.{state_of, does};
-ghost use Rattle.others.specs.Others.{other_kind, outside_kind, reaching, waiting_after, noted_at, last_kind, passing, path_end, other};
+ghost use Rattle.others.specs.Others.{other_kind, outside_kind, reaching, ends_waiting, waiting_after, noted_at, last_kind, passing, path_end, other};
 ghost use Rattle.others.specs.Laws.{noted_with};
 
 use phrases::path;
-use properties::FROM_OUTSIDE;
 use rows::{Reading, next_of, noted, on, second_of};
-use steps::{Fault, NO_FAULT, Went, any, start_of, symbol, worse};
-use words::kinds::{
-    ABSTRACT, ADDS, APPLIES, BECOMES, BUS, DATA, DEVICE, END, ENDED, FEATURE, MEMORY, PERIOD,
-    PRIORITY, PROCESS, PROCESSOR, PROPERTY, SEMICOLON, SUBPROGRAM, SYSTEM, VIRTUAL,
-};
+use steps::{Fault, Rule, Went, Why, any, start_of, symbol, worse};
+use words::kinds::Kind;
 
-pub fn begins_other(kind: usize) -> bool
+#[tactic(auto, unfolding(crate::specs::Others::other_kind))]
+pub fn begins_other(kind: Kind) -> bool
     ensures { result ≡ other_kind kind }
 {
-    if kind == ABSTRACT {
-        return true;
-    }
-    if kind == BUS {
-        return true;
-    }
-    if kind == DATA {
-        return true;
-    }
-    if kind == DEVICE {
-        return true;
-    }
-    if kind == FEATURE {
-        return true;
-    }
-    if kind == MEMORY {
-        return true;
-    }
-    if kind == PROCESS {
-        return true;
-    }
-    if kind == PROCESSOR {
-        return true;
-    }
-    if kind == PROPERTY {
-        return true;
-    }
-    if kind == SUBPROGRAM {
-        return true;
-    }
-    if kind == SYSTEM {
-        return true;
-    }
-    if kind == VIRTUAL {
-        return true;
-    }
-    false
+    matches!(
+        kind,
+        Kind::Abstract
+            | Kind::Bus
+            | Kind::Data
+            | Kind::Device
+            | Kind::Feature
+            | Kind::Memory
+            | Kind::Process
+            | Kind::Processor
+            | Kind::Property
+            | Kind::Subprogram
+            | Kind::System
+            | Kind::Virtual
+    )
 }
 
 // Whether properties in it may reach a thread from outside.
-fn is_outside(kind: usize) -> bool
+#[tactic(auto, unfolding(crate::specs::Others::outside_kind))]
+fn is_outside(kind: Kind) -> bool
     ensures { result ≡ outside_kind kind }
 {
-    if kind == PROCESS {
-        return true;
-    }
-    kind == SYSTEM
+    matches!(kind, Kind::Process | Kind::System)
 }
 
 // Whether a word is such a property, by what follows it.
-fn is_reaching(kind: usize, second: usize) -> bool
+#[tactic(auto, unfolding(crate::specs::Others::reaching, crate::specs::Others::reaches, crate::specs::Others::associates))]
+fn is_reaching(kind: Kind, second: Kind) -> bool
     ensures { result ≡ reaching kind second }
 {
-    if kind < PERIOD {
-        return false;
-    }
-    if PRIORITY < kind {
-        return false;
-    }
-    if second == BECOMES {
-        return true;
-    }
-    second == ADDS
+    matches!(
+        kind,
+        Kind::Period
+            | Kind::Deadline
+            | Kind::DispatchProtocol
+            | Kind::DispatchOffset
+            | Kind::Priority
+    ) && matches!(second, Kind::Becomes | Kind::Adds)
+}
+
+#[tactic(auto, unfolding(crate::specs::Others::ends_waiting))]
+fn ends_waiting(kind: Kind) -> bool
+    ensures { result ≡ ends_waiting kind }
+{
+    matches!(kind, Kind::Applies | Kind::Sign(b';'))
 }
 
 // The least of the words that wait for "applies", behind the next token.
-fn waiting_after(text: &[u8], reading: Reading, outside: bool, waiting: Fault) -> Fault
+fn waiting_after(
+    text: &[u8],
+    reading: Reading,
+    outside: bool,
+    waiting: Option<Fault>,
+) -> Option<Fault>
     ensures { (w : List Fault) → waiting ≡ worst no_fault w →
         result ≡ worst no_fault (waiting_after outside w (first_kind (lift text.now reading.went))
         (second_kind (lift text.now reading.went))
         (first (lift text.now reading.went)).start) }
 {
     let kind = next_of(text, reading);
-    if kind == APPLIES {
-        return NO_FAULT;
+    if ends_waiting(kind) {
+        return None;
     }
-    if kind == SEMICOLON {
-        return NO_FAULT;
-    }
-    if !outside {
-        return waiting;
-    }
-    if !is_reaching(kind, second_of(text, reading)) {
+    if !outside || !is_reaching(kind, second_of(text, reading)) {
         return waiting;
     }
     let went = reading.went;
     worse(
         waiting,
-        Fault {
-            number: 20,
+        Some(Fault {
+            rule: Rule::Unfit,
             place: start_of(text, went),
-            why: FROM_OUTSIDE,
-        },
+            why: Why::FromOutside,
+        }),
     )
 }
 
 // "applies" notes them.
-fn noted_at(reading: Reading, kind: usize, waiting: Fault) -> Reading
+fn noted_at(reading: Reading, kind: Kind, waiting: Option<Fault>) -> Reading
     ensures { (w : List Fault) → waiting ≡ worst no_fault w → result ≡ noted_with reading (noted_at w kind) }
 {
-    if kind == APPLIES {
+    if kind == Kind::Applies {
         return noted(reading, waiting);
     }
     reading
 }
 
-fn goes_on(kind: usize) -> bool
+#[tactic(auto, unfolding(crate::specs::Others::last_kind))]
+fn goes_on(kind: Kind) -> bool
     ensures { result ≡ not (last_kind kind) }
 {
-    if kind == END {
-        return false;
-    }
-    kind != ENDED
+    !matches!(kind, Kind::End | Kind::Ended)
 }
 
 // Any tokens up to the first "end".
@@ -144,7 +120,7 @@ fn passed(text: &[u8], reading: Reading, outside: bool) -> Reading
         ≡ does (state_of text.now reading m) (passing outside []) }
 {
     let mut r = reading;
-    let mut waiting = NO_FAULT;
+    let mut waiting = None;
     while goes_on(next_of(text, r)) {
         let here = r.went;
         let behind = noted_at(r, next_of(text, r), waiting);
@@ -158,7 +134,11 @@ fn passed(text: &[u8], reading: Reading, outside: bool) -> Reading
 pub fn path_end(text: &[u8], went: Went) -> Went
     ensures { lift text.now result ≡ lift text.now went ⟫ path_end }
 {
-    symbol(text, path(text, symbol(text, went, END)), SEMICOLON)
+    symbol(
+        text,
+        path(text, symbol(text, went, Kind::End)),
+        Kind::Sign(b';'),
+    )
 }
 
 // An other declaration.

@@ -1,5 +1,7 @@
 -- AADL.md, section 2: rules that declare nothing by themselves.
-use Rattle.common.specs.Words.{ℕ, Bool, true, false, cond, List, eqb}
+use Rattle.words.specs.Same.{same_kind}
+use Rattle.words.specs.declared.kinds.Kind.{Kind}
+use Rattle.common.specs.Words.{Bool, true, false, cond, List}
 use Rattle.words.specs.Kinds.{ENDED, END, COLON, SCOPE, DOT, COMMA, SEMICOLON, OPEN_BRACE, ANNEXED, ARROW, DELAYING, ANNEX, CALLS, CONNECTIONS, DATA}
 use Rattle.words.specs.Kinds.{EVENT, FEATURES, FLOWS, IN, MODES, NONE, OUT, PORT, PROPERTIES, PROTOTYPES, SUBCOMPONENTS}
 use Rattle.tokens.specs.Tokens.{Token}
@@ -7,15 +9,16 @@ use Rattle.steps.specs.Steps.{Step, ◌⟫◌, next, second, is, named, any, the
 use Rattle.values.specs.Values.{block}
 
 -- rest = { any token but "{" ";" "end" and the text's end } [ block ] ";"
-unfoldable pub rest_kind : ℕ → Bool
-rest_kind k = cond (eqb k OPEN_BRACE) false (cond (eqb k SEMICOLON) false (cond (eqb k END) false (cond (eqb k ENDED) false true)))
+unfoldable pub rest_kind : Kind → Bool
+rest_kind k = cond (same_kind k OPEN_BRACE) false
+    (cond (same_kind k SEMICOLON) false (cond (same_kind k END) false (cond (same_kind k ENDED) false true)))
 
 unfoldable pub rest : List Token → Step
 rest ts = many (λ us. rest_kind (next us)) any ts ⟫ optional (is OPEN_BRACE) block ⟫ the SEMICOLON
 
 -- { NAME "::" }
 abbrev pub begins_scope : List Token → Bool
-begins_scope ts = eqb (second ts) SCOPE
+begins_scope ts = same_kind (second ts) SCOPE
 
 abbrev pub scope : List Token → Step
 scope ts = name ts ⟫ the SCOPE
@@ -35,8 +38,8 @@ unfoldable pub classifier : List Token → Step
 classifier ts = scopes ts ⟫ name ⟫ dotted
 
 -- path = NAME { ( "::" | "." ) NAME }
-unfoldable pub join_kind : ℕ → Bool
-join_kind k = cond (eqb k SCOPE) true (cond (eqb k DOT) true false)
+unfoldable pub join_kind : Kind → Bool
+join_kind k = cond (same_kind k SCOPE) true (cond (same_kind k DOT) true false)
 
 abbrev pub joint : List Token → Step
 joint ts = any ts ⟫ name
@@ -80,21 +83,21 @@ unfoldable pub nothing : List Token → Step
 nothing ts = the NONE ts ⟫ the SEMICOLON
 
 -- "Section words"
-unfoldable pub section_kind : ℕ → Bool
+unfoldable pub section_kind : Kind → Bool
 section_kind k =
-    cond (eqb k ANNEX) true
-    (cond (eqb k CALLS) true
-    (cond (eqb k CONNECTIONS) true
-    (cond (eqb k FEATURES) true
-    (cond (eqb k FLOWS) true
-    (cond (eqb k MODES) true
-    (cond (eqb k PROPERTIES) true
-    (cond (eqb k PROTOTYPES) true
-    (cond (eqb k SUBCOMPONENTS) true false))))))))
+    cond (same_kind k ANNEX) true
+    (cond (same_kind k CALLS) true
+    (cond (same_kind k CONNECTIONS) true
+    (cond (same_kind k FEATURES) true
+    (cond (same_kind k FLOWS) true
+    (cond (same_kind k MODES) true
+    (cond (same_kind k PROPERTIES) true
+    (cond (same_kind k PROTOTYPES) true
+    (cond (same_kind k SUBCOMPONENTS) true false))))))))
 
 -- "a skipped section's word, then any tokens up to the next section word or "end""
-unfoldable pub skip_kind : ℕ → Bool
-skip_kind k = cond (section_kind k) false (cond (eqb k END) false (cond (eqb k ENDED) false true))
+unfoldable pub skip_kind : Kind → Bool
+skip_kind k = cond (section_kind k) false (cond (same_kind k END) false (cond (same_kind k ENDED) false true))
 
 unfoldable pub skipped : List Token → Step
 skipped ts = any ts ⟫ many (λ us. skip_kind (next us)) any

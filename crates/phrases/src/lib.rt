@@ -11,14 +11,10 @@ ghost use Rattle.phrases.specs.Phrases.{place, arrow, nothing, section_kind, ski
 
 use steps::{Went, any, is_name, name, next, second, symbol};
 use values::block;
-use words::kinds::{
-    ANNEX, ANNEXED, ARROW, CALLS, COLON, COMMA, CONNECTIONS, DATA, DELAYING, DOT, END, ENDED,
-    EVENT, FEATURES, FLOWS, IN, MODES, NONE, OPEN_BRACE, OUT, PORT, PROPERTIES, PROTOTYPES, SCOPE,
-    SEMICOLON, SUBCOMPONENTS,
-};
+use words::kinds::Kind;
 
 // [ kind ]
-fn maybe(text: &[u8], went: Went, kind: usize) -> Went
+fn maybe(text: &[u8], went: Went, kind: Kind) -> Went
     ensures { lift text.now result ≡ lift text.now went ⟫ optional (is kind) (the kind) }
 {
     if next(text, went) == kind {
@@ -27,29 +23,21 @@ fn maybe(text: &[u8], went: Went, kind: usize) -> Went
     went
 }
 
-fn in_rest(kind: usize) -> bool
+#[tactic(auto, using(words::specs::Same::kind_differs, common::specs::Tests::tests), unfolding(crate::specs::Phrases::rest_kind))]
+fn in_rest(kind: Kind) -> bool
     ensures { result ≡ rest_kind kind }
 {
-    if kind == OPEN_BRACE {
-        return false;
-    }
-    if kind == SEMICOLON {
-        return false;
-    }
-    if kind == END {
-        return false;
-    }
-    if kind == ENDED {
-        return false;
-    }
-    true
+    !matches!(
+        kind,
+        Kind::Sign(b'{') | Kind::Sign(b';') | Kind::End | Kind::Ended
+    )
 }
 
 // [ block ]
 fn maybe_block(text: &[u8], went: Went) -> Went
     ensures { lift text.now result ≡ lift text.now went ⟫ optional (is OPEN_BRACE) block }
 {
-    if next(text, went) == OPEN_BRACE {
+    if next(text, went) == Kind::Sign(b'{') {
         return block(text, went);
     }
     went
@@ -63,7 +51,7 @@ pub fn rest(text: &[u8], went: Went) -> Went
     while in_rest(next(text, w)) {
         w = any(text, w);
     }
-    symbol(text, maybe_block(text, w), SEMICOLON)
+    symbol(text, maybe_block(text, w), Kind::Sign(b';'))
 }
 
 // { NAME "::" }
@@ -71,8 +59,8 @@ pub fn scopes(text: &[u8], went: Went) -> Went
     ensures { lift text.now result ≡ lift text.now went ⟫ scopes }
 {
     let mut w = went;
-    while second(text, w) == SCOPE {
-        w = symbol(text, name(text, w), SCOPE);
+    while second(text, w) == Kind::Scope {
+        w = symbol(text, name(text, w), Kind::Scope);
     }
     w
 }
@@ -81,8 +69,8 @@ pub fn scopes(text: &[u8], went: Went) -> Went
 pub fn dotted(text: &[u8], went: Went) -> Went
     ensures { lift text.now result ≡ lift text.now went ⟫ dotted }
 {
-    if next(text, went) == DOT {
-        return name(text, symbol(text, went, DOT));
+    if next(text, went) == Kind::Sign(b'.') {
+        return name(text, symbol(text, went, Kind::Sign(b'.')));
     }
     went
 }
@@ -94,16 +82,11 @@ pub fn classifier(text: &[u8], went: Went) -> Went
     dotted(text, name(text, scopes(text, went)))
 }
 
-fn joins(kind: usize) -> bool
+#[tactic(auto, using(words::specs::Same::kind_differs, common::specs::Tests::tests), unfolding(crate::specs::Phrases::join_kind))]
+fn joins(kind: Kind) -> bool
     ensures { result ≡ join_kind kind }
 {
-    if kind == SCOPE {
-        return true;
-    }
-    if kind == DOT {
-        return true;
-    }
-    false
+    matches!(kind, Kind::Scope | Kind::Sign(b'.'))
 }
 
 // NAME { ( "::" | "." ) NAME }
@@ -122,46 +105,54 @@ pub fn paths(text: &[u8], went: Went) -> Went
     ensures { lift text.now result ≡ lift text.now went ⟫ paths }
 {
     let mut w = path(text, went);
-    while next(text, w) == COMMA {
-        w = path(text, symbol(text, w, COMMA));
+    while next(text, w) == Kind::Sign(b',') {
+        w = path(text, symbol(text, w, Kind::Sign(b',')));
     }
-    symbol(text, w, SEMICOLON)
+    symbol(text, w, Kind::Sign(b';'))
 }
 
 // "annex" NAME ANNEX ";"
 pub fn annex(text: &[u8], went: Went) -> Went
     ensures { lift text.now result ≡ lift text.now went ⟫ annex }
 {
-    let named = name(text, symbol(text, went, ANNEX));
-    symbol(text, symbol(text, named, ANNEXED), SEMICOLON)
+    let named = name(text, symbol(text, went, Kind::Annex));
+    symbol(
+        text,
+        symbol(text, named, Kind::Sign(b'A')),
+        Kind::Sign(b';'),
+    )
 }
 
 // "in" [ "out" ] | "out"
 pub fn direction(text: &[u8], went: Went) -> Went
     ensures { lift text.now result ≡ lift text.now went ⟫ direction }
 {
-    if next(text, went) == IN {
-        return maybe(text, symbol(text, went, IN), OUT);
+    if next(text, went) == Kind::In {
+        return maybe(text, symbol(text, went, Kind::In), Kind::Out);
     }
-    symbol(text, went, OUT)
+    symbol(text, went, Kind::Out)
 }
 
 // "data" "port" | "event" [ "data" ] "port"
 pub fn port_kind(text: &[u8], went: Went) -> Went
     ensures { lift text.now result ≡ lift text.now went ⟫ port_kind }
 {
-    if next(text, went) == DATA {
-        return symbol(text, symbol(text, went, DATA), PORT);
+    if next(text, went) == Kind::Data {
+        return symbol(text, symbol(text, went, Kind::Data), Kind::Port);
     }
-    symbol(text, maybe(text, symbol(text, went, EVENT), DATA), PORT)
+    symbol(
+        text,
+        maybe(text, symbol(text, went, Kind::Event), Kind::Data),
+        Kind::Port,
+    )
 }
 
 // "port" | "data" "port" | "event" [ "data" ] "port"
 pub fn link_kind(text: &[u8], went: Went) -> Went
     ensures { lift text.now result ≡ lift text.now went ⟫ link_kind }
 {
-    if next(text, went) == PORT {
-        return symbol(text, went, PORT);
+    if next(text, went) == Kind::Port {
+        return symbol(text, went, Kind::Port);
     }
     port_kind(text, went)
 }
@@ -177,66 +168,43 @@ pub fn place(text: &[u8], went: Went) -> Went
 pub fn arrow(text: &[u8], went: Went) -> Went
     ensures { lift text.now result ≡ lift text.now went ⟫ arrow }
 {
-    if next(text, went) == DELAYING {
-        return symbol(text, went, DELAYING);
+    if next(text, went) == Kind::Delaying {
+        return symbol(text, went, Kind::Delaying);
     }
-    symbol(text, went, ARROW)
+    symbol(text, went, Kind::Arrow)
 }
 
 // "none" ";"
 pub fn nothing(text: &[u8], went: Went) -> Went
     ensures { lift text.now result ≡ lift text.now went ⟫ nothing }
 {
-    symbol(text, symbol(text, went, NONE), SEMICOLON)
+    symbol(text, symbol(text, went, Kind::None), Kind::Sign(b';'))
 }
 
 // A word that begins a section.
-pub fn begins_section(kind: usize) -> bool
+#[tactic(auto, using(words::specs::Same::kind_differs, common::specs::Tests::tests), unfolding(crate::specs::Phrases::section_kind))]
+pub fn begins_section(kind: Kind) -> bool
     ensures { result ≡ section_kind kind }
 {
-    if kind == ANNEX {
-        return true;
-    }
-    if kind == CALLS {
-        return true;
-    }
-    if kind == CONNECTIONS {
-        return true;
-    }
-    if kind == FEATURES {
-        return true;
-    }
-    if kind == FLOWS {
-        return true;
-    }
-    if kind == MODES {
-        return true;
-    }
-    if kind == PROPERTIES {
-        return true;
-    }
-    if kind == PROTOTYPES {
-        return true;
-    }
-    if kind == SUBCOMPONENTS {
-        return true;
-    }
-    false
+    matches!(
+        kind,
+        Kind::Annex
+            | Kind::Calls
+            | Kind::Connections
+            | Kind::Features
+            | Kind::Flows
+            | Kind::Modes
+            | Kind::Properties
+            | Kind::Prototypes
+            | Kind::Subcomponents
+    )
 }
 
-fn in_section(kind: usize) -> bool
+#[tactic(auto, using(words::specs::Same::kind_differs, common::specs::Tests::tests), unfolding(crate::specs::Phrases::skip_kind))]
+fn in_section(kind: Kind) -> bool
     ensures { result ≡ skip_kind kind }
 {
-    if begins_section(kind) {
-        return false;
-    }
-    if kind == END {
-        return false;
-    }
-    if kind == ENDED {
-        return false;
-    }
-    true
+    !begins_section(kind) && !matches!(kind, Kind::End | Kind::Ended)
 }
 
 // A section's word, and any tokens up to the next section or the end.
@@ -254,7 +222,7 @@ pub fn skipped(text: &[u8], went: Went) -> Went
 pub fn label(text: &[u8], went: Went) -> Went
     ensures { lift text.now result ≡ lift text.now went ⟫ label }
 {
-    symbol(text, name(text, went), COLON)
+    symbol(text, name(text, went), Kind::Sign(b':'))
 }
 
 // [ NAME ":" ]

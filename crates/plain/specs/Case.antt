@@ -1,8 +1,9 @@
 -- Letter case does not count: a text with every letter in lower case gives the same plain text. A plain text is as long as its text.
 use Rattle.std.specs.Prelude.{◌+◌, ◌<◌, ◌≤◌, ◌&&◌, ◌∷◌, ◌⊎◌, ◌≡◌, ◌||◌}
+use Rattle.std.specs.Char.{to_ascii_lowercase}
 use Rattle.common.specs.Words.{ℕ, zero, suc, arith, Bool, true, false, List, [], map, inl, inr, ⊎_elim, refl, sym, ap, ◌∙◌, eqb, leb}
-use Rattle.common.specs.Words.{length, get_or, drop, ne_eqb, leb-true, lt-leb, ltb, ltb-true}
-use Rattle.common.specs.Tests.{true_or_false, both}
+use Rattle.common.specs.Words.{length, get_or, drop, ne_eqb, leb-true, lt-leb, le-leb, lt-ltb, le-ltb, ltb, ltb-true}
+use Rattle.common.specs.Tests.{true_or_false, both, lt_or_le}
 use Rattle.std.proofs.Math.Bool.{and-false}
 use Rattle.std.proofs.lemmas.List.{length-map}
 use Rattle.std.proofs.Math.ListN.{get_or-map}
@@ -32,6 +33,16 @@ lower_cases b =
     let h = both (leb 0x41 b) e in inl (rw e, leb-true 0x41 b h.0, leb-true b 0x5a h.1))
     (λ (e : (leb 0x41 b && leb b 0x5a) ≡ false). inr (rw e))
     (true_or_false (leb 0x41 b && leb b 0x5a))
+
+-- what the library makes of a letter
+pub lower_is : (b : ℕ) → to_ascii_lowercase b ≡ lower b
+unfolding lower
+lower_is b =
+    ⊎_elim (λ (l : b < 0x41). rw (lt-ltb b 0x41 l, lt-leb 0x41 b l))
+    (λ (h : 0x41 ≤ b).
+    ⊎_elim (λ (l : b < 0x5b). rw (le-ltb b 0x41 h, lt-ltb b 0x5b l, le-leb 0x41 b h, le-leb b 0x5a (omega arith)))
+    (λ (g : 0x5b ≤ b). rw (le-ltb b 0x41 h, le-ltb b 0x5b g, le-leb 0x41 b h, lt-leb b 0x5a (omega arith))) (lt_or_le b 0x5b))
+    (lt_or_le b 0x41)
 
 lower_high : (b : ℕ) → 0x5a < b → lower b ≡ b
 unfolding lower

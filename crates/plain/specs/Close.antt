@@ -5,8 +5,7 @@ use Rattle.common.specs.Words.{ℕ, zero, suc, arith, add-one, Bool, true, false
 use Rattle.common.specs.Words.{◌∙◌, eqb, length, get_or, drop, take, set, drop-cons, drop-drop, drop_of_length-le, get_or-drop, ⊎_elim}
 use Rattle.common.specs.Words.{eq-or-lt_of_le, le_of_suc-le-suc, take-suc-set, take_all, eq-eqb, ne_eqb, eqb-true, not-true}
 use Rattle.common.specs.Tests.{clash, both}
-use Rattle.plain.specs.declared.Step.{Step}
-use Rattle.plain.specs.Plain.{two, three, string_by, close_by, annex_rest, step, begun, step_of, plain_by}
+use Rattle.plain.specs.Plain.{Step, two, three, string_by, close_by, annex_rest, step, begun, step_of, plain_by}
 
 -- ## The front of what is left, at a place of the text
 

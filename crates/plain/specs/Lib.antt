@@ -5,3 +5,4 @@ pub mod Case
 pub mod Begun
 pub mod Comments
 pub mod Examples
+pub mod Inside

@@ -4,7 +4,6 @@
 -- What is long to reckon stands in a `let`, which is reckoned only where a test picks it.
 use Rattle.std.specs.Prelude.{◌+◌, ◌&&◌, ◌∷◌}
 use Rattle.common.specs.Words.{ℕ, zero, suc, Bool, true, false, cond, List, [], eqb, leb, get_or, drop}
-use Rattle.plain.specs.declared.Step.{Step}
 
 -- "Words compare without regard to letter case"
 unfoldable pub lower : ℕ → ℕ
@@ -38,6 +37,11 @@ unfoldable pub annex_rest : List ℕ → ℕ
 annex_rest bs = let close = close_by 2 (drop 2 bs) in cond (two bs 0x2a 0x2a) close 0
 
 -- a byte of the plain text; whether the next one stands in a comment, and how many more belong to a string, an annex or the mark
+pub record Step : Type 0 where
+  pub byte : ℕ
+  pub comment : Bool
+  pub left : ℕ
+
 abbrev pub step : ℕ → Bool → ℕ → Step
 step b c n = record { byte = b; comment = c; left = n }
 

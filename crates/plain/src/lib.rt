@@ -3,32 +3,32 @@
 #![tactic(auto)]
 
 ghost use Rattle.std.specs.Prelude.{◌≡◌, ◌+◌, ◌-◌, ◌≤◌, ◌<◌};
-ghost use Rattle.common.specs.Words.{length, drop, get_or};
+ghost use Rattle.common.specs.Words.{List, ℕ, true, length, drop, get_or};
 ghost use Rattle.plain.specs.Plain.{lower, two, three, string_by, close_by, annex_rest, brace, begun, step_of, mark_rest, plain_of};
+ghost use Rattle.plain.specs.Inside.{comment_of, left_of, seen};
 ghost use Rattle.plain.specs.Close.{quote_width, ends_string, ended_by, last_close};
 
 use words::byte_at;
 
-// A byte of the plain text; whether the next one stands in a comment, and how many more belong to a string, an annex or the mark that a
-// text may begin with.
+// What a byte stands in: a comment, or what is left of a string, an annex or the mark that a text may begin with. Of none nothing is left.
+#[derive(Clone, Copy)]
+pub enum Inside {
+    Comment,
+    Rest(usize),
+}
+
+// A byte of the plain text, and what the next one stands in.
 #[derive(Drop)]
-pub struct Step {
+pub struct Seen {
     pub byte: u8,
-    pub comment: bool,
-    pub left: usize,
+    pub after: Inside,
 }
 
 // A letter as a small one.
 fn lower(b: u8) -> u8
     ensures { result ≡ lower b }
 {
-    if b < b'A' {
-        return b;
-    }
-    if b'Z' < b {
-        return b;
-    }
-    b + 0x20
+    b.to_ascii_lowercase()
 }
 
 // Whether two bytes stand at a place.
@@ -36,10 +36,7 @@ fn two_at(text: &[u8], at: usize, a: u8, b: u8) -> bool
     requires { at ≤ length text.now }
     ensures { result ≡ two (drop at text.now) a b }
 {
-    if byte_at(text, at) != a {
-        return false;
-    }
-    byte_at(text, at + 1) == b
+    byte_at(text, at) == a && byte_at(text, at + 1) == b
 }
 
 // Whether three bytes stand at a place.
@@ -47,10 +44,7 @@ fn three_at(text: &[u8], at: usize, a: u8, b: u8, c: u8) -> bool
     requires { at ≤ length text.now }
     ensures { result ≡ three (drop at text.now) a b c }
 {
-    if !two_at(text, at, a, b) {
-        return false;
-    }
-    byte_at(text, at + 2) == c
+    two_at(text, at, a, b) && byte_at(text, at + 2) == c
 }
 
 // A doubled quote counts as one.
@@ -65,10 +59,7 @@ fn ends_string(text: &[u8], at: usize) -> bool
     requires { at < length text.now }
     ensures { result ≡ ends_string text.now at }
 {
-    if text[at] != b'"' {
-        return false;
-    }
-    byte_at(text, at + 1) != b'"'
+    text[at] == b'"' && byte_at(text, at + 1) != b'"'
 }
 
 // Where a string has ended so far, by a byte that does not end it: a doubled quote's first one would.
@@ -79,7 +70,8 @@ fn ended_by(b: u8, passed: usize, ended: usize) -> usize
     if b == b'"' { passed + 1 } else { ended }
 }
 
-// How many bytes a string has behind its first quote, 0 where none begins: no quote follows in this line.
+// How many bytes a string has behind its first quote, 0 where none begins: no quote follows in this line. The index is counted by hand,
+// since a turn passes one byte or, at a doubled quote, two.
 fn string_rest(text: &[u8], at: usize) -> usize
     requires { at ≤ length text.now }
     ensures { result ≡ string_by 0 0 (drop at text.now) }
@@ -104,12 +96,10 @@ fn string_rest(text: &[u8], at: usize) -> usize
 fn last_close(text: &[u8]) -> usize
     ensures { result ≡ last_close text.now }
 {
-    let mut n = text.len();
-    while 0 < n {
-        if three_at(text, n - 1, b'*', b'*', b'}') {
-            return n;
+    for i in (0..text.len()).rev() {
+        if three_at(text, i, b'*', b'*', b'}') {
+            return i + 1;
         }
-        n -= 1;
     }
     0
 }
@@ -119,12 +109,10 @@ fn close_rest(text: &[u8], at: usize) -> usize
     requires { at ≤ length text.now }
     ensures { result ≡ close_by 2 (drop (at + 2) text.now) }
 {
-    let mut i = at + 2;
-    while i < text.len() {
+    for i in at + 2..text.len() {
         if three_at(text, i, b'*', b'*', b'}') {
             return i + 3 - at;
         }
-        i += 1;
     }
     0
 }
@@ -152,66 +140,64 @@ fn brace(annexed: usize) -> u8
 }
 
 // A byte outside of comments, strings and annexes.
-fn begun(text: &[u8], at: usize, last: usize) -> Step
+fn begun(text: &[u8], at: usize, last: usize) -> Seen
     requires { (at < length text.now) × (last ≡ last_close text.now) }
-    ensures { result ≡ begun (get_or text.now at 0) (drop (at + 1) text.now) }
+    ensures { seen result ≡ begun (get_or text.now at 0) (drop (at + 1) text.now) }
 {
     if two_at(text, at, b'-', b'-') {
-        return Step {
+        return Seen {
             byte: b' ',
-            comment: true,
-            left: 0,
+            after: Inside::Comment,
         };
     }
     let b = text[at];
     if b == b'"' {
-        return Step {
+        return Seen {
             byte: b'"',
-            comment: false,
-            left: string_rest(text, at + 1),
+            after: Inside::Rest(string_rest(text, at + 1)),
         };
     }
     if b == b'{' {
         let annexed = annex_rest(text, at + 1, last);
-        return Step {
+        return Seen {
             byte: brace(annexed),
-            comment: false,
-            left: annexed,
+            after: Inside::Rest(annexed),
         };
     }
-    Step {
+    Seen {
         byte: lower(b),
-        comment: false,
-        left: 0,
+        after: Inside::Rest(0),
+    }
+}
+
+// The next byte of a comment.
+fn commented(byte: u8) -> Seen
+    ensures { (bs : List ℕ) → seen result ≡ step_of true 0 byte bs }
+{
+    if byte == b'\n' {
+        return Seen {
+            byte: b'\n',
+            after: Inside::Rest(0),
+        };
+    }
+    Seen {
+        byte: b' ',
+        after: Inside::Comment,
     }
 }
 
 // The next byte, by what it stands in.
-fn next(text: &[u8], at: usize, last: usize, comment: bool, left: usize) -> Step
+fn next(text: &[u8], at: usize, last: usize, inside: Inside) -> Seen
     requires { (at < length text.now) × (last ≡ last_close text.now) }
-    ensures { result ≡ step_of comment left (get_or text.now at 0) (drop (at + 1) text.now) }
+    ensures { seen result ≡ step_of (comment_of inside) (left_of inside) (get_or text.now at 0) (drop (at + 1) text.now) }
 {
-    if 0 < left {
-        return Step {
+    match inside {
+        Inside::Comment => commented(text[at]),
+        Inside::Rest(left) if 0 < left => Seen {
             byte: b' ',
-            comment: false,
-            left: left - 1,
-        };
-    }
-    if !comment {
-        return begun(text, at, last);
-    }
-    if text[at] == b'\n' {
-        return Step {
-            byte: b'\n',
-            comment: false,
-            left: 0,
-        };
-    }
-    Step {
-        byte: b' ',
-        comment: true,
-        left: 0,
+            after: Inside::Rest(left - 1),
+        },
+        Inside::Rest(_) => begun(text, at, last),
     }
 }
 
@@ -232,12 +218,10 @@ pub fn make_plain(text: &[u8], plain: &mut [u8])
     ensures { plain.new ≡ plain_of text.now }
 {
     let last = last_close(text);
-    let mut comment = false;
-    let mut left = mark_rest(text);
+    let mut inside = Inside::Rest(mark_rest(text));
     for i in 0..text.len() {
-        let s = next(text, i, last, comment, left);
-        plain[i] = s.byte;
-        comment = s.comment;
-        left = s.left;
+        let seen = next(text, i, last, inside);
+        plain[i] = seen.byte;
+        inside = seen.after;
     }
 }

@@ -1,12 +1,11 @@
 -- Document 01's refusals: the number of each rule, and the answer of a chain of tests.
-use Rattle.std.specs.Prelude.{◌∷◌, ◌⊎◌, ◌≡◌}
+use Rattle.std.specs.Prelude.{◌∷◌, ◌⊎◌, ◌≡◌, Result, Ok, Err}
 use Rattle.common.specs.Words.{ℕ, Bool, true, false, cond, List, []}
 use Rattle.plan.specs.declared.refusal.Rule.{Rule}
 use Rattle.plan.specs.declared.refusal.Rule.TheVariants.{TaskOrQueueCount, PeriodOrDeadline, ReceiverOrSender, HyperperiodTooLong, TooManyMessages}
 use Rattle.plan.specs.declared.refusal.Rule.TheVariants.{TooManySlots, UnsoundPlan, ShortMemory, NoSuchSender, TickBeforeState, PastLastTick, JobOver}
 use Rattle.plan.specs.declared.refusal.Rule.TheVariants.{SentAlready, PayloadLength, NoSuchNumber}
 use Rattle.plan.specs.declared.refusal.Refusal.{Refusal}
-use Rattle.plan.specs.declared.refusal.Verdict.{Verdict}
 
 abbrev pub number_of : Rule → ℕ
 number_of TaskOrQueueCount = 1
@@ -46,8 +45,15 @@ abbrev pub judged : {A : Type 0} → List Line → (Refusal → A) → A → A
 judged [] refused good = good
 judged (line ∷ lines) refused good = cond line.applies (refused line.given) (judged lines refused good)
 
+-- what the tests of a call come to
+abbrev pub Verdict : Type 0
+Verdict = Result (Unit {0}) Refusal
+
+abbrev pub clear : Verdict
+clear = Ok tt
+
 abbrev pub verdict : List Line → Verdict
-verdict lines = judged lines Verdict.Refused Verdict.Clear
+verdict lines = judged lines Err clear
 
 -- the first line that applies gives r
 abbrev pub Stopped : List Line → Refusal → Type 0

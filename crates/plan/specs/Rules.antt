@@ -1,7 +1,7 @@
 -- Rules 1, 2, 3, 7 and 9 of document 01's table, each as the test that a table or a plan has to pass.
 -- Rules 1 to 3 are stated over counts, columns and connections, so that planning's table and a plan are tested by the same words.
-use Rattle.std.specs.Prelude.{◌&&◌, ◌||◌}
-use Rattle.common.specs.Words.{ℕ, Bool, not, List, leb, ltb, eqb, get_or}
+use Rattle.std.specs.Prelude.{◌&&◌, ◌||◌, Option, Some, None}
+use Rattle.common.specs.Words.{ℕ, Bool, cond, not, List, leb, ltb, eqb, get_or}
 use Rattle.common.specs.Terms.{sum, every, some, first_bad}
 use Rattle.plan.specs.Limits.{task_limit, queue_limit, longest_period, most_slots}
 use Rattle.plan.specs.Queues.{sends_into, size_at, place_at, slots_of}
@@ -41,6 +41,10 @@ bad_task period deadline tasks = first_bad (λ i. task_good (get_or period i 0) 
 
 abbrev pub bad_queue : List (List Bool) → List ℕ → ℕ → ℕ → ℕ
 bad_queue square receiver tasks queues = first_bad (λ q. queue_good tasks (get_or receiver q 0) (entry square q)) queues
+
+-- the answer of a search for it: the row, and none where it is the count
+abbrev pub row_below : ℕ → ℕ → Option ℕ
+row_below n row = cond (ltb row n) (Some row) None
 
 abbrev pub task_good_at : Plan → ℕ → Bool
 task_good_at p i = task_good (get_or p.period i 0) (get_or p.deadline i 0)

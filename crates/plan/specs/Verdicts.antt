@@ -1,12 +1,11 @@
 -- A chain of refusals read as facts. Either every line passed, and the good answer is given, or the first line that applies stopped the
 -- call, and its refusal is given. A call's answer, state and memory are each chosen by the same lines, so the verdict on the lines
 -- decides all three.
-use Rattle.std.specs.Prelude.{◌∷◌, ◌++◌, ◌⊎◌, ◌≡◌}
+use Rattle.std.specs.Prelude.{◌∷◌, ◌++◌, ◌⊎◌, ◌≡◌, Ok, Err}
 use Rattle.common.specs.Words.{ℕ, arith, Bool, true, false, cond, List, [], inl, inr, refl, ap, ◌∙◌}
 use Rattle.plan.specs.Refusals.{Line, judged}
-pub use Rattle.plan.specs.Refusals.{Stopped, verdict}
+pub use Rattle.plan.specs.Refusals.{Stopped, Verdict, clear, verdict}
 use Rattle.plan.specs.declared.refusal.Refusal.{Refusal}
-use Rattle.plan.specs.declared.refusal.Verdict.{Verdict}
 
 -- no line applies
 abbrev pub Passed : List Line → Type 0
@@ -59,46 +58,46 @@ judged_map {A} {B} f (line ∷ lines) refused good = go line.applies (judged_map
 -- ## The verdict is all that a choice by the lines looks at
 
 abbrev pub outcome : {A : Type 0} → Verdict → (Refusal → A) → A → A
-outcome Verdict.Clear refused good = good
-outcome (Verdict.Refused r) refused good = refused r
+outcome (Ok x) refused good = good
+outcome (Err r) refused good = refused r
 
 pub by_verdict : {A : Type 0} (lines : List Line) (refused : Refusal → A) (good : A) →
     judged lines refused good ≡ outcome (verdict lines) refused good
 by_verdict lines refused good = go (passed_or_stopped lines)
   where
     go : Passed lines ⊎ ((r : Refusal) × Stopped lines r) → judged lines refused good ≡ outcome (verdict lines) refused good
-    go (inl h) = rw (passed_good lines refused good h, passed_good lines Verdict.Refused Verdict.Clear h)
-    go (inr h) = rw (stopped_refused lines h.0 refused good h.1, stopped_refused lines h.0 Verdict.Refused Verdict.Clear h.1)
+    go (inl h) = rw (passed_good lines refused good h, passed_good lines Err clear h)
+    go (inr h) = rw (stopped_refused lines h.0 refused good h.1, stopped_refused lines h.0 Err clear h.1)
 
 pub by_refusal : {A : Type 0} (lines : List Line) (refused : Refusal → A) (good : A) (r : Refusal) →
-    verdict lines ≡ Verdict.Refused r → judged lines refused good ≡ refused r
+    verdict lines ≡ Err r → judged lines refused good ≡ refused r
 by_refusal lines refused good r e = by_verdict lines refused good ∙ ap (λ (v : Verdict). outcome v refused good) e
 
 pub by_clear : {A : Type 0} (lines : List Line) (refused : Refusal → A) (good : A) →
-    verdict lines ≡ Verdict.Clear → judged lines refused good ≡ good
+    verdict lines ≡ clear → judged lines refused good ≡ good
 by_clear lines refused good e = by_verdict lines refused good ∙ ap (λ (v : Verdict). outcome v refused good) e
 
-pub verdict_stopped : (lines : List Line) (r : Refusal) → verdict lines ≡ Verdict.Refused r → Stopped lines r
+pub verdict_stopped : (lines : List Line) (r : Refusal) → verdict lines ≡ Err r → Stopped lines r
 verdict_stopped [] r e = absurd (let z : ◌≡◌ {A = ℕ} 0 1 = cc in omega arith)
 verdict_stopped (line ∷ lines) r e = go line.applies refl e (verdict_stopped lines r)
   where
-    go : (b : Bool) → line.applies ≡ b → cond b (Verdict.Refused line.given) (verdict lines) ≡ Verdict.Refused r →
-        (verdict lines ≡ Verdict.Refused r → Stopped lines r) → Stopped (line ∷ lines) r
+    go : (b : Bool) → line.applies ≡ b → cond b (Err line.given) (verdict lines) ≡ Err r →
+        (verdict lines ≡ Err r → Stopped lines r) → Stopped (line ∷ lines) r
     go true a e rest = let same : line.given ≡ r = cc in inl (a, same)
     go false a e rest = inr (a, rest e)
 
-pub stopped_verdict : (lines : List Line) (r : Refusal) → Stopped lines r → verdict lines ≡ Verdict.Refused r
-stopped_verdict lines r h = stopped_refused lines r Verdict.Refused Verdict.Clear h
+pub stopped_verdict : (lines : List Line) (r : Refusal) → Stopped lines r → verdict lines ≡ Err r
+stopped_verdict lines r h = stopped_refused lines r Err clear h
 
-pub clear_passed : (lines : List Line) → verdict lines ≡ Verdict.Clear → Passed lines
+pub clear_passed : (lines : List Line) → verdict lines ≡ clear → Passed lines
 clear_passed lines e =
-    (judged_good Verdict.Refused Verdict.Clear Verdict.Clear (λ r h. let z : ◌≡◌ {A = ℕ} 0 1 = cc in omega arith) lines e).0
+    (judged_good {A = Verdict} Err clear clear (λ r h. let z : ◌≡◌ {A = ℕ} 0 1 = cc in omega arith) lines e).0
 
-pub passed_clear : (lines : List Line) → Passed lines → verdict lines ≡ Verdict.Clear
-passed_clear lines h = passed_good lines Verdict.Refused Verdict.Clear h
+pub passed_clear : (lines : List Line) → Passed lines → verdict lines ≡ clear
+passed_clear lines h = passed_good lines Err clear h
 
 -- of two lists in a row the second counts where the first is passed
-pub stops : (a b : List Line) (r : Refusal) → verdict a ≡ Verdict.Refused r → verdict (a ++ b) ≡ Verdict.Refused r
+pub stops : (a b : List Line) (r : Refusal) → verdict a ≡ Err r → verdict (a ++ b) ≡ Err r
 stops a b r e = stopped_verdict (a ++ b) r (on a (verdict_stopped a r e))
   where
     on : (a : List Line) → Stopped a r → Stopped (a ++ b) r
@@ -106,7 +105,7 @@ stops a b r e = stopped_verdict (a ++ b) r (on a (verdict_stopped a r e))
     on (line ∷ a) (inl h) = inl h
     on (line ∷ a) (inr h) = inr (h.0, on a h.1)
 
-pub goes_on : (a b : List Line) → verdict a ≡ Verdict.Clear → verdict (a ++ b) ≡ verdict b
+pub goes_on : (a b : List Line) → verdict a ≡ clear → verdict (a ++ b) ≡ verdict b
 goes_on a b e = on a (clear_passed a e)
   where
     on : (a : List Line) → Passed a → verdict (a ++ b) ≡ verdict b

@@ -1,6 +1,6 @@
 -- What an accepted planning has made: a sound plan, its table as handed in with zeros beyond the counts, the least fit sizes, never
 -- above equation 3, and the places as running sums. What a refused one has made: the plan of all zeros.
-use Rattle.std.specs.Prelude.{◌<◌, ◌≤◌, ◌&&◌, ◌++◌, ◌⊎◌, ◌↔◌, ◌≡◌}
+use Rattle.std.specs.Prelude.{◌<◌, ◌≤◌, ◌&&◌, ◌++◌, ◌⊎◌, ◌↔◌, ◌≡◌, Err}
 use Rattle.common.specs.Words.{ℕ, arith, Bool, false, List, inl, inr, refl, sym, ap, ◌∙◌, lt-ltb, ltb-false, leb-true, not-false, ltb, get_or}
 use Rattle.common.specs.Tests.{and_left}
 use Rattle.common.specs.Totals.{only, sum, sum_ext, sum_at}
@@ -12,7 +12,7 @@ use Rattle.model.proofs.Slots.{slots_iff, slots_pos}
 use Rattle.model.proofs.Equation3.{slots_bound}
 use Rattle.plan.specs.Limits.{queue_limit, longest_hyperperiod, most_slots}
 use Rattle.plan.specs.Plan.{zeros, queue_at, size_at, place_at, Usable}
-use Rattle.plan.specs.Refusals.{judged}
+use Rattle.plan.specs.Refusals.{judged, Verdict, clear}
 use Rattle.plan.specs.Verdicts.{Passed, Stopped, passed_or_stopped, passed_good, stopped_refused, judged_good}
 use Rattle.plan.specs.Sound.{Checked, Sound, sound_iff, checked_usable, checked_sender, usable}
 use Rattle.plan.specs.declared.Plan.{Plan}
@@ -25,7 +25,6 @@ use Rattle.planning.specs.Planning.{sized, refused_plan, first_lines, table_line
 pub use Rattle.planning.specs.Planning.{Made}
 use Rattle.planning.specs.TableLaws.{table_checked}
 use Rattle.planning.specs.declared.Planned.{Planned}
-use Rattle.planning.specs.declared.Answer.{Answer}
 
 -- ## A table that has passed rules 1 to 6
 
@@ -91,9 +90,9 @@ module _ {t : Plan} (c : Checked t) (cycles : long_queue t ≡ t.queues) (few : 
 
 -- ## Planning
 
-not_accepted : (r : Refusal) (p : Plan) → refused_plan r ≡ record { answer = Answer.Accepted; plan = p } → ⊥
+not_accepted : (r : Refusal) (p : Plan) → refused_plan r ≡ record { answer = clear; plan = p } → ⊥
 not_accepted r p e =
-    let a : Answer.Refused r ≡ Answer.Accepted = ap (λ (x : Planned). x.answer) e in
+    let a : ◌≡◌ {A = Verdict} (Err r) clear = ap (λ (x : Planned). x.answer) e in
     let z : ◌≡◌ {A = ℕ} 0 1 = cc in
     omega arith
 
@@ -111,11 +110,11 @@ module _ (tasks queues : ℕ) (period deadline priority receiver : List ℕ) (sq
     few : sum (least_size T) T.queues ≤ most_slots
     plan_is : (plan_of tasks queues period deadline priority receiver square).plan ≡ sized T
 
-  passes : (plan_of tasks queues period deadline priority receiver square).answer ≡ Answer.Accepted → Passes
+  passes : (plan_of tasks queues period deadline priority receiver square).answer ≡ clear → Passes
   unfolding plan_of table_judged
   passes e =
       let p = (plan_of tasks queues period deadline priority receiver square).plan in
-      let whole : plan_of tasks queues period deadline priority receiver square ≡ record { answer = Answer.Accepted; plan = p } =
+      let whole : plan_of tasks queues period deadline priority receiver square ≡ record { answer = clear; plan = p } =
       λ i. record { answer = e i; plan = p } in
       let table = judged_good refused_plan (table_judged T) _ (λ r. not_accepted r p)
       (first_lines tasks queues period deadline receiver square) whole in
@@ -138,7 +137,7 @@ module _ (tasks queues : ℕ) (period deadline priority receiver : List ℕ) (sq
   plan_lines = refl
 
   -- "A refused planning gives the plan of all zeros"
-  pub refused_zeros : (r : Refusal) → (plan_of tasks queues period deadline priority receiver square).answer ≡ Answer.Refused r →
+  pub refused_zeros : (r : Refusal) → (plan_of tasks queues period deadline priority receiver square).answer ≡ Err r →
       (plan_of tasks queues period deadline priority receiver square).plan ≡ zeros
   refused_zeros r e = go (passed_or_stopped (first_lines tasks queues period deadline receiver square ++ table_lines T))
     where
@@ -148,7 +147,7 @@ module _ (tasks queues : ℕ) (period deadline priority receiver : List ℕ) (sq
       go (inl h) =
           let good = plan_lines ∙ passed_good (first_lines tasks queues period deadline receiver square ++ table_lines T) refused_plan
           (accepted_plan T) h in
-          let a : Answer.Refused r ≡ Answer.Accepted = sym e ∙ ap (λ (x : Planned). x.answer) good in
+          let a : ◌≡◌ {A = Verdict} (Err r) clear = sym e ∙ ap (λ (x : Planned). x.answer) good in
           absurd (let z : ◌≡◌ {A = ℕ} 0 1 = cc in omega arith)
       go (inr h) =
           ap (λ (x : Planned). x.plan)
@@ -156,7 +155,7 @@ module _ (tasks queues : ℕ) (period deadline priority receiver : List ℕ) (sq
           (accepted_plan T)
           h.1)
 
-  module _ (yes : (plan_of tasks queues period deadline priority receiver square).answer ≡ Answer.Accepted) where
+  module _ (yes : (plan_of tasks queues period deadline priority receiver square).answer ≡ clear) where
     -- an accepted plan holds the table with the least sizes and their places
     pub accepted_is : (plan_of tasks queues period deadline priority receiver square).plan
         ≡ sized (tabled tasks queues period deadline priority receiver square)

@@ -1,13 +1,13 @@
 -- What planning answers and the plan that it makes, on every input: rules 1 to 6 in document 01's order, the least sizes, and the
 -- places as running sums.
-use Rattle.std.specs.Prelude.{◌<◌, ◌≤◌, ◌&&◌, ◌∷◌, ◌≡◌}
+use Rattle.std.specs.Prelude.{◌<◌, ◌≤◌, ◌&&◌, ◌∷◌, ◌≡◌, Err}
 use Rattle.common.specs.Words.{ℕ, Bool, true, not, List, [], ltb}
 use Rattle.common.specs.Terms.{sum}
 use Rattle.model.specs.Model.{hyperperiod, slots}
 use Rattle.plan.specs.Limits.{longest_hyperperiod, most_slots}
 use Rattle.plan.specs.Queues.{zeros, queue_at, size_at}
 use Rattle.plan.specs.Rules.{counts_good, bad_task, bad_queue, sound_plan}
-use Rattle.plan.specs.Refusals.{Line, ◌gives◌, named, unnamed, judged}
+use Rattle.plan.specs.Refusals.{Line, ◌gives◌, named, unnamed, judged, clear}
 use Rattle.plan.specs.declared.Plan.{Plan}
 use Rattle.plan.specs.declared.refusal.Refusal.{Refusal}
 use Rattle.plan.specs.declared.refusal.Rule.TheVariants.{TaskOrQueueCount, PeriodOrDeadline, ReceiverOrSender, HyperperiodTooLong, TooManyMessages}
@@ -16,7 +16,6 @@ use Rattle.sizing.specs.Cycle.{cycle_short}
 use Rattle.tables.specs.Table.{tabled}
 use Rattle.places.specs.Places.{long_queue, least_size, least_sizes, running_places}
 use Rattle.planning.specs.declared.Planned.{Planned}
-use Rattle.planning.specs.declared.Answer.{Answer}
 
 -- the plan of a table t whose rows have passed rules 1 to 3
 unfoldable pub sized : Plan → Plan
@@ -34,7 +33,7 @@ sized t = record {
 
 -- "A refused planning gives the plan of all zeros"
 abbrev pub refused_plan : Refusal → Planned
-refused_plan r = record { answer = Answer.Refused r; plan = zeros }
+refused_plan r = record { answer = Err r; plan = zeros }
 
 -- "Planning tests 1; 2 by rows; 3 by queues; then 4 before 5 queue by queue; then 6.": the last three, of a table that has passed the others
 abbrev pub slot_line : Plan → Line
@@ -48,7 +47,7 @@ table_lines t =
     ∷ []
 
 abbrev pub accepted_plan : Plan → Planned
-accepted_plan t = record { answer = Answer.Accepted; plan = sized t }
+accepted_plan t = record { answer = clear; plan = sized t }
 
 unfoldable pub slots_judged : Plan → Planned
 slots_judged t = judged (slot_line t ∷ []) refused_plan (accepted_plan t)

@@ -1,10 +1,11 @@
 -- What planning answers in document 01's numbers. The console's line for a plan is start's, so an acceptance has code 0 here and no values.
-use Rattle.std.specs.Prelude.{◌&&◌, ◌∷◌, ◌++◌, ◌≡◌}
+use Rattle.std.specs.Prelude.{◌&&◌, ◌∷◌, ◌++◌, ◌≡◌, Ok, Err}
 use Rattle.common.specs.Words.{ℕ, Bool, cond, not, List, [], ap, ◌∙◌, ltb}
 use Rattle.common.specs.Totals.{sum}
 use Rattle.plan.specs.Limits.{most_slots}
 use Rattle.plan.specs.Rules.{counts_good, bad_task, bad_queue}
 use Rattle.plan.specs.Says.{Said, refused_says, no}
+use Rattle.plan.specs.Refusals.{Verdict}
 use Rattle.plan.specs.Verdicts.{judged_map}
 use Rattle.sizing.specs.Cycle.{cycle_short}
 use Rattle.tables.specs.Table.{tabled}
@@ -12,11 +13,10 @@ use Rattle.places.specs.Places.{long_queue, least_size}
 use Rattle.planning.specs.Planning.{refused_plan, first_lines, table_lines, accepted_plan, plan_of}
 use Rattle.planning.specs.AcceptedPlan.{plan_lines}
 use Rattle.planning.specs.declared.Planned.{Planned}
-use Rattle.planning.specs.declared.Answer.{Answer}
 
-abbrev pub answer_says : Answer → Said
-answer_says Answer.Accepted = (0, [])
-answer_says (Answer.Refused r) = refused_says r
+abbrev pub answer_says : Verdict → Said
+answer_says (Ok x) = (0, [])
+answer_says (Err r) = refused_says r
 
 -- "A refusal of 2 to 5 names the first bad row from 0"
 abbrev pub bad : ℕ → ℕ → Said

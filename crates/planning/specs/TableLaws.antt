@@ -13,13 +13,13 @@ use Rattle.plan.specs.Sound.{Checked, checked_of}
 use Rattle.tables.specs.Table.{value_within, counted, flat_entry, flat, tabled}
 
 pub counted_at : (limit n : ℕ) (values : List ℕ) (i : ℕ) → n ≤ limit → i < n → get_or (counted limit n values) i 0 ≡ get_or values i 0
-counted_at limit n values i f l = table_at (value_within n values) limit i 0 (omega arith) ∙ rw (lt-ltb i n l)
+counted_at limit n values i f l = table_at (value_within n values 0) limit i 0 (omega arith) ∙ rw (lt-ltb i n l)
 
 -- "zeros in a plan we make"
 pub counted_beyond : (limit n : ℕ) (values : List ℕ) (i : ℕ) → n ≤ i → get_or (counted limit n values) i 0 ≡ 0
 counted_beyond limit n values i h =
-    ⊎_elim (λ (l : i < limit). table_at (value_within n values) limit i 0 l ∙ rw (le-ltb i n h))
-    (λ (l : limit ≤ i). get_or-eq_default (counted limit n values) 0 (omega (arith, table_length (value_within n values) limit)))
+    ⊎_elim (λ (l : i < limit). table_at (value_within n values 0) limit i 0 l ∙ rw (le-ltb i n h))
+    (λ (l : limit ≤ i). get_or-eq_default (counted limit n values) 0 (omega (arith, table_length (value_within n values 0) limit)))
     (lt_or_le i limit)
 
 pub flat_at : (queues : ℕ) (square : List (List Bool)) (q i : ℕ) → queues ≤ queue_limit → q < queues → i < task_limit →

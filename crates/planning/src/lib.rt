@@ -12,16 +12,10 @@ use places::{first_long, places_of, sizes_of, total_of};
 use plan::Plan;
 use plan::refusal::{Refusal, Rule};
 
-#[derive(Drop)]
-pub enum Answer {
-    Accepted,
-    Refused(Refusal),
-}
-
 // The answer, and the plan: that of all zeros where the table is refused.
 #[derive(Drop)]
 pub struct Planned {
-    pub answer: Answer,
+    pub answer: Result<(), Refusal>,
     pub plan: Plan,
 }
 
@@ -29,7 +23,7 @@ fn refused(rule: Rule, row: usize) -> Planned
     ensures { result ≡ refused_plan (named rule row) }
 {
     Planned {
-        answer: Answer::Refused(Refusal { rule, row }),
+        answer: Err(Refusal { rule, row }),
         plan: Plan::zeros(),
     }
 }
@@ -39,17 +33,18 @@ fn sized(table: Plan) -> Planned
     requires { Checked table × (long_queue table ≡ table.queues) }
     ensures { result ≡ slots_judged table }
 {
-    let sizes = sizes_of(table);
-    if Plan::MOST_SLOTS < total_of(table.queues, sizes) {
+    let size = sizes_of(&table);
+    if Plan::MOST_SLOTS < total_of(table.queues, size) {
         return refused(Rule::TooManySlots, 0);
     }
-    let places = places_of(table.queues, sizes);
-    let mut plan = table;
-    plan.size = sizes;
-    plan.place = places;
+    let place = places_of(table.queues, size);
     Planned {
-        answer: Answer::Accepted,
-        plan,
+        answer: Ok(()),
+        plan: Plan {
+            size,
+            place,
+            ..table
+        },
     }
 }
 
@@ -58,9 +53,8 @@ fn judged_table(table: Plan) -> Planned
     requires { Checked table }
     ensures { result ≡ table_judged table }
 {
-    let long = first_long(table);
-    if long < table.queues {
-        if !sizing::cycle::cycle_short(table, long) {
+    if let Some(long) = first_long(&table) {
+        if !sizing::cycle::cycle_short(&table, long) {
             return refused(Rule::HyperperiodTooLong, long);
         }
         return refused(Rule::TooManyMessages, long);
@@ -84,12 +78,10 @@ pub fn make_plan(
     if !rules::counts_good(tasks, queues) {
         return refused(Rule::TaskOrQueueCount, 0);
     }
-    let task = rules::first_bad_task(period, deadline, tasks);
-    if task < tasks {
+    if let Some(task) = rules::first_bad_task(&period, &deadline, tasks) {
         return refused(Rule::PeriodOrDeadline, task);
     }
-    let queue = rules::first_bad_queue(square, receiver, tasks, queues);
-    if queue < queues {
+    if let Some(queue) = rules::first_bad_queue(square, &receiver, tasks, queues) {
         return refused(Rule::ReceiverOrSender, queue);
     }
     judged_table(tables::tabled(tasks, queues, period, deadline, priority, receiver, square))

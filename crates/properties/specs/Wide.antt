@@ -1,4 +1,5 @@
 -- Properties declare nothing, and no Priority over 255 is kept; a section's list declares rows with all their columns where its rule does.
+use Rattle.properties.specs.declared.Of.{Of}
 use Rattle.std.specs.Prelude.{◌≤◌, ◌∷◌, ◌≡◌}
 use Rattle.common.specs.Words.{ℕ, zero, suc, List, [], refl, ap, eqb, get_or, set}
 use Rattle.words.specs.Kinds.{NONE, OPEN_BRACE, CLOSE_BRACE, PROPERTIES}
@@ -35,23 +36,23 @@ owned_low q ps ts l =
 
 -- ## Rules
 
-association_wide : (c : ℕ) → WideOn (association_in c)
+association_wide : (c : Of) → WideOn (association_in c)
 unfolding association_in skipped_in
 association_wide c ps ts =
     wide_silent _ (association_silent c ps ts)
     (λ l. cases (λ (s : Said). Low s.props) (read_in c (property_at (On ts))) (λ _. owned_low (property_at (On ts)) ps ts l) (λ _. l))
 
-associations_wide : (c : ℕ) → WideOn (associations_in c)
+associations_wide : (c : Of) → WideOn (associations_in c)
 unfolding associations_in
 associations_wide c = wide_repeat named (association_in c) (association_wide c)
 
-block_wide : (c : ℕ) → WideOn (block_in c)
+block_wide : (c : Of) → WideOn (block_in c)
 unfolding block_in
 block_wide c ps ts =
     wide_onward _ (quiet (the CLOSE_BRACE)) (wide_onward _ (associations_in c) (wide_quiet (the OPEN_BRACE) ps ts) (associations_wide c))
     (wide_quiet (the CLOSE_BRACE))
 
-pub maybe_block_wide : (c : ℕ) → WideOn (maybe_block_in c)
+pub maybe_block_wide : (c : Of) → WideOn (maybe_block_in c)
 unfolding maybe_block_in
 maybe_block_wide c = wide_optionally (is OPEN_BRACE) (block_in c) (block_wide c)
 
@@ -59,7 +60,7 @@ pub none_or_wide : (rule : Rule) → WideOn rule → WideOn (none_or rule)
 unfolding none_or
 none_or_wide rule h ps ts = cases (Wide ps) (is NONE ts) (λ _. wide_silent _ refl (λ l. l)) (λ _. h ps ts)
 
-pub properties_in_wide : (c : ℕ) → WideOn (properties_in c)
+pub properties_in_wide : (c : Of) → WideOn (properties_in c)
 unfolding properties_in
 properties_in_wide c ps ts =
     wide_onward _ (none_or (associations_in c)) (wide_quiet (the PROPERTIES) ps ts) (none_or_wide (associations_in c) (associations_wide c))

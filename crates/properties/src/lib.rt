@@ -11,11 +11,11 @@ ghost use Rattle.properties.specs.Properties.{associations_in, maybe_block_in, p
 
 use phrases::nothing;
 use rows::{Reading, next_of, noted, on, symbol_on};
-use steps::{Fault, NO_FAULT, Went, any, is_name, name, next, second, start_of, symbol, worse};
+use steps::{Fault, Rule, Went, Why, any, is_name, name, next, second, start_of, symbol, worse};
 use times::priorities::priority;
 use times::{Formed, time};
 use values::{association, scoped, value};
-use words::kinds;
+use words::kinds::Kind;
 
 // Their places among the properties, and that of any other property.
 pub const PERIOD: usize = 0;
@@ -32,57 +32,40 @@ pub const TIMING: usize = 5;
 
 const ANOTHER: usize = 6;
 
-// Where an association stands.
-pub const OF_THREAD: usize = 0;
-
-pub const OF_PORT: usize = 1;
-
-pub const OF_PROCESS: usize = 2;
-
-// What is wrong with a property.
-pub const SECOND_TIME: usize = 0x320;
-
-pub const FROM_OUTSIDE: usize = 0x321;
+// What the properties where an association stands are of.
+#[derive(Clone, Copy, PartialEq, Eq)]
+pub enum Of {
+    Thread,
+    Port,
+    Process,
+}
 
 // The property that a name means by itself.
-fn named_by(kind: usize) -> usize
+#[tactic(auto, using(words::specs::Same::kind_differs, common::specs::Tests::tests), unfolding(crate::specs::Properties::named_by))]
+fn named_by(kind: Kind) -> usize
     ensures { result ≡ named_by kind }
 {
-    if kind == kinds::PERIOD {
-        return PERIOD;
+    match kind {
+        Kind::Period => PERIOD,
+        Kind::Deadline => DEADLINE,
+        Kind::DispatchProtocol => PROTOCOL,
+        Kind::DispatchOffset => OFFSET,
+        Kind::Priority => PRIORITY,
+        Kind::Timing => TIMING,
+        _ => ANOTHER,
     }
-    if kind == kinds::DEADLINE {
-        return DEADLINE;
-    }
-    if kind == kinds::DISPATCH_PROTOCOL {
-        return PROTOCOL;
-    }
-    if kind == kinds::DISPATCH_OFFSET {
-        return OFFSET;
-    }
-    if kind == kinds::PRIORITY {
-        return PRIORITY;
-    }
-    if kind == kinds::TIMING {
-        return TIMING;
-    }
-    ANOTHER
 }
 
 // The set that a property's name may stand in.
-fn set_of(property: usize) -> usize
+#[tactic(auto, using(words::specs::Same::kind_differs, common::specs::Tests::tests), unfolding(crate::specs::Properties::set_of))]
+fn set_of(property: usize) -> Kind
     ensures { result ≡ set_of property }
 {
-    if property == PROTOCOL {
-        return kinds::THREAD_PROPERTIES;
+    match property {
+        PROTOCOL | PRIORITY => Kind::ThreadProperties,
+        TIMING => Kind::CommunicationProperties,
+        _ => Kind::TimingProperties,
     }
-    if property == PRIORITY {
-        return kinds::THREAD_PROPERTIES;
-    }
-    if property == TIMING {
-        return kinds::COMMUNICATION_PROPERTIES;
-    }
-    kinds::TIMING_PROPERTIES
 }
 
 // Which property stands here.
@@ -90,11 +73,11 @@ fn property_at(text: &[u8], went: Went) -> usize
     ensures { result ≡ property_at (lift text.now went) }
 {
     let kind = next(text, went);
-    if second(text, went) != kinds::SCOPE {
+    if second(text, went) != Kind::Scope {
         return named_by(kind);
     }
     let inner = any(text, any(text, went));
-    if second(text, inner) == kinds::SCOPE {
+    if second(text, inner) == Kind::Scope {
         return ANOTHER;
     }
     let property = named_by(next(text, inner));
@@ -105,26 +88,25 @@ fn property_at(text: &[u8], went: Went) -> usize
 }
 
 // Whether a property is read in a place of this sort.
-fn is_read(of: usize, property: usize) -> bool
+#[tactic(auto, using(common::specs::Tests::tests), unfolding(crate::specs::Properties::read_in))]
+fn is_read(of: Of, property: usize) -> bool
     ensures { result ≡ read_in of property }
 {
-    if of == OF_THREAD {
-        return property < TIMING;
+    match of {
+        Of::Thread => property < TIMING,
+        Of::Port => property == TIMING,
+        Of::Process => false,
     }
-    if of == OF_PORT {
-        return property == TIMING;
-    }
-    false
 }
 
 // 1 for the name that is right for a property, 2 for any other.
-fn rightness(property: usize, kind: usize) -> usize
+fn rightness(property: usize, kind: Kind) -> usize
     ensures { result ≡ right_by property kind }
 {
     if property == PROTOCOL {
-        return one_if(kind == kinds::PERIODIC);
+        return one_if(kind == Kind::Periodic);
     }
-    one_if(kind == kinds::DELAYED)
+    one_if(kind == Kind::Delayed)
 }
 
 fn one_if(right: bool) -> usize
@@ -144,7 +126,7 @@ fn form(text: &[u8], went: Went, property: usize) -> Formed
         return Formed {
             went: value(text, went),
             value: 1,
-            fault: NO_FAULT,
+            fault: None,
         };
     }
     if property == PRIORITY {
@@ -153,7 +135,7 @@ fn form(text: &[u8], went: Went, property: usize) -> Formed
     Formed {
         went: name(text, went),
         value: rightness(property, next(text, went)),
-        fault: NO_FAULT,
+        fault: None,
     }
 }
 
@@ -167,12 +149,12 @@ fn owned(text: &[u8], reading: Reading, property: usize) -> Reading
     let mut props = reading.props;
     let f = form(
         text,
-        symbol(text, scoped(text, went), kinds::BECOMES),
+        symbol(text, scoped(text, went), Kind::Becomes),
         property,
     );
     let formed = f.went;
     let fault = f.fault;
-    let closed = symbol(text, formed, kinds::SEMICOLON);
+    let closed = symbol(text, formed, Kind::Sign(b';'));
     if props[property] == 0 {
         props[property] = f.value;
         return Reading {
@@ -182,11 +164,11 @@ fn owned(text: &[u8], reading: Reading, property: usize) -> Reading
             fault: worse(before, fault),
         };
     }
-    let again = Fault {
-        number: 20,
+    let again = Some(Fault {
+        rule: Rule::Unfit,
         place: start_of(text, went),
-        why: SECOND_TIME,
-    };
+        why: Why::SecondTime,
+    });
     Reading {
         went: closed,
         props,
@@ -196,30 +178,30 @@ fn owned(text: &[u8], reading: Reading, property: usize) -> Reading
 }
 
 // A property that would reach threads from outside is noted, and skipped.
-fn skipped_in(text: &[u8], reading: Reading, of: usize, property: usize) -> Reading
+fn skipped_in(text: &[u8], reading: Reading, of: Of, property: usize) -> Reading
     requires { property ≡ property_at (lift text.now reading.went) }
     ensures { (m : List ℕ) → state_of text.now result m ≡ does (state_of text.now reading m) (skipped_in of) }
 {
     let went = reading.went;
     let skipped = on(reading, association(text, went));
-    if of != OF_PROCESS {
+    if of != Of::Process {
         return skipped;
     }
     if property < TIMING {
         return noted(
             skipped,
-            Fault {
-                number: 20,
+            Some(Fault {
+                rule: Rule::Unfit,
                 place: start_of(text, went),
-                why: FROM_OUTSIDE,
-            },
+                why: Why::FromOutside,
+            }),
         );
     }
     skipped
 }
 
 // One association, by where it stands.
-fn association_in(text: &[u8], reading: Reading, of: usize) -> Reading
+fn association_in(text: &[u8], reading: Reading, of: Of) -> Reading
     ensures { (m : List ℕ) → state_of text.now result m ≡ does (state_of text.now reading m) (association_in of) }
 {
     let went = reading.went;
@@ -231,7 +213,7 @@ fn association_in(text: &[u8], reading: Reading, of: usize) -> Reading
 }
 
 // { association }
-fn associations_in(text: &[u8], reading: Reading, of: usize) -> Reading
+fn associations_in(text: &[u8], reading: Reading, of: Of) -> Reading
     ensures { (m : List ℕ) → state_of text.now result m
         ≡ does (state_of text.now reading m) (associations_in of) }
 {
@@ -243,22 +225,22 @@ fn associations_in(text: &[u8], reading: Reading, of: usize) -> Reading
 }
 
 // [ "{" { association } "}" ]
-pub fn maybe_block_in(text: &[u8], reading: Reading, of: usize) -> Reading
+pub fn maybe_block_in(text: &[u8], reading: Reading, of: Of) -> Reading
     ensures { (m : List ℕ) → state_of text.now result m ≡ does (state_of text.now reading m) (maybe_block_in of) }
 {
-    if next_of(text, reading) != kinds::OPEN_BRACE {
+    if next_of(text, reading) != Kind::Sign(b'{') {
         return reading;
     }
-    let inner = associations_in(text, symbol_on(text, reading, kinds::OPEN_BRACE), of);
-    symbol_on(text, inner, kinds::CLOSE_BRACE)
+    let inner = associations_in(text, symbol_on(text, reading, Kind::Sign(b'{')), of);
+    symbol_on(text, inner, Kind::Sign(b'}'))
 }
 
 // "properties" ( "none" ";" | { association } )
-pub fn properties_in(text: &[u8], reading: Reading, of: usize) -> Reading
+pub fn properties_in(text: &[u8], reading: Reading, of: Of) -> Reading
     ensures { (m : List ℕ) → state_of text.now result m ≡ does (state_of text.now reading m) (properties_in of) }
 {
-    let inner = symbol_on(text, reading, kinds::PROPERTIES);
-    if next_of(text, inner) == kinds::NONE {
+    let inner = symbol_on(text, reading, Kind::Properties);
+    if next_of(text, inner) == Kind::None {
         let went = inner.went;
         return on(inner, nothing(text, went));
     }

@@ -1,162 +1,149 @@
 -- Promise 1: the first place decides. A refusal (number, place) means that no fault stands at an earlier place and none with a lower number
--- at the same one; a table means that there is no fault. Number 0 is no fault.
-use Rattle.std.specs.Prelude.{◌<◌, ◌≤◌, ◌∷◌, ◌⊎◌, ◌≡◌}
-use Rattle.common.specs.Words.{ℕ, zero, suc, arith, pos_of_ne-zero, Bool, true, false, true≢false, cond, List, [], inl, inr, ⊎_elim, refl, sym}
-use Rattle.common.specs.Words.{ap, ◌∙◌, eqb, eqb-true, eqb-false, length, get_or}
-use Rattle.common.specs.Tests.{lt_or_le, clash}
-use Rattle.steps.specs.declared.Fault.{Fault}
-use Rattle.steps.specs.Faults.{no_fault, worse, worst}
-use Rattle.steps.specs.Worse.{before, Before, worse_by, before_is, before_of, before_trans, before_between}
-use Rattle.findings.specs.declared.Answer.{Answer}
-use Rattle.findings.specs.declared.Answer.TheVariants.{Sound, Refused, NoRoom}
-use Rattle.findings.specs.declared.Refusal.{Refusal}
+-- at the same one; a table means that there is no fault.
+use Rattle.std.specs.Prelude.{◌<◌, ◌∷◌, ◌⊎◌, ◌≡◌, Option, None, Some}
+use Rattle.common.specs.Words.{ℕ, zero, suc, arith, Bool, true, false, cond, List, [], inl, inr, ⊎_elim, refl, sym, subst, ◌∙◌, length}
+use Rattle.common.specs.Words.{get_or}
+use Rattle.common.specs.Tests.{clash}
+use Rattle.steps.specs.declared.faults.Fault.{Fault}
+use Rattle.steps.specs.Faults.{no_fault, before, worse, worst}
+use Rattle.steps.specs.Worse.{Before, worse_by, before_is, before_of, before_trans, before_between}
 use Rattle.findings.specs.declared.Table.{Table}
-use Rattle.findings.specs.Findings.{number_of, rule_of, no_table, answered}
-use Rattle.findings.specs.Laws.{clamped}
-use Rattle.reader.specs.Reader.{faults_of, refusal, answer_by, answer_plain, read_of}
+use Rattle.findings.specs.Findings.{Answer, sound, refused, number_of}
+use Rattle.reader.specs.Reader.{faults_of, answer_by, answer_plain, read_of}
 
 -- ## The least fault of a list
 
 not_itself : (f : Fault) → Before f f → ⊥
-not_itself f (n, inl z) = omega arith
-not_itself f (n, inr (inl l)) = omega arith
-not_itself f (n, inr (inr e)) = omega (arith, e.1)
+not_itself f (inl l) = omega arith
+not_itself f (inr e) = omega (arith, e.1)
+
+-- the worse of a and b, and the least of a fault and a list
+better : Fault → Fault → Fault
+better a b = cond (before b a) b a
+
+least : Fault → List Fault → Fault
+least f [] = f
+least f (g ∷ gs) = least (better f g) gs
+
+worse_better : (a b : Fault) → worse (Some a) (Some b) ≡ Some (better a b)
+unfolding better
+worse_better a b = worse_by a b ∙ go (before b a)
+  where
+    go : (x : Bool) → ◌≡◌ {A = Option Fault} (cond x (Some b) (Some a)) (Some (cond x b a))
+    go true = refl
+    go false = refl
+
+worst_least : (f : Fault) (fs : List Fault) → worst (Some f) fs ≡ Some (least f fs)
+unfolding worst least
+worst_least f [] = refl
+worst_least f (g ∷ gs) = rw (worse_better f g) (worst_least (better f g) gs)
 
 -- of a and b, neither lies before the worse of them
-not_first : (a b : Fault) → Before a (worse a b) → ⊥
-not_first a b h = go (before b a) refl (rw (worse_by a b) at h)
+not_first : (a b : Fault) → Before a (better a b) → ⊥
+unfolding better
+not_first a b h = go (before b a) refl h
   where
     go : (x : Bool) → before b a ≡ x → Before a (cond x b a) → ⊥
     go true e k = not_itself a (before_trans a b a k (before_is b a e))
     go false e k = not_itself a k
 
-not_second : (a b : Fault) → Before b (worse a b) → ⊥
-not_second a b h = go (before b a) refl (rw (worse_by a b) at h)
+not_second : (a b : Fault) → Before b (better a b) → ⊥
+unfolding better
+not_second a b h = go (before b a) refl h
   where
     go : (x : Bool) → before b a ≡ x → Before b (cond x b a) → ⊥
     go true e k = not_itself b k
     go false e k = clash (before_of b a k) e
 
-not_begin : (f : Fault) (fs : List Fault) → Before f (worst f fs) → ⊥
-unfolding worst
+not_begin : (f : Fault) (fs : List Fault) → Before f (least f fs) → ⊥
+unfolding least
 not_begin f [] h = not_itself f h
 not_begin f (g ∷ gs) h =
-    ⊎_elim (λ (x : Before f (worse f g)). not_first f g x) (λ (x : Before (worse f g) (worst (worse f g) gs)). not_begin (worse f g) gs x)
-    (before_between f (worse f g) (worst (worse f g) gs) h)
+    ⊎_elim (λ (x : Before f (better f g)). not_first f g x) (λ (x : Before (better f g) (least (better f g) gs)). not_begin (better f g) gs x)
+    (before_between f (better f g) (least (better f g) gs) h)
 
-none_before : (f : Fault) (fs : List Fault) (i : ℕ) → i < length fs → Before (get_or fs i no_fault) (worst f fs) → ⊥
-unfolding worst
-none_before f [] i l h = omega arith
-none_before f (g ∷ gs) zero l h =
-    ⊎_elim (λ (x : Before g (worse f g)). not_second f g x) (λ (x : Before (worse f g) (worst (worse f g) gs)). not_begin (worse f g) gs x)
-    (before_between g (worse f g) (worst (worse f g) gs) h)
-none_before f (g ∷ gs) (suc i) l h = none_before (worse f g) gs i (omega arith) h
+none_before : (d f : Fault) (fs : List Fault) (i : ℕ) → i < length fs → Before (get_or fs i d) (least f fs) → ⊥
+unfolding least
+none_before d f [] i l h = omega arith
+none_before d f (g ∷ gs) zero l h =
+    ⊎_elim (λ (x : Before g (better f g)). not_second f g x) (λ (x : Before (better f g) (least (better f g) gs)). not_begin (better f g) gs x)
+    (before_between g (better f g) (least (better f g) gs) h)
+none_before d f (g ∷ gs) (suc i) l h = none_before d (better f g) gs i (omega arith) h
 
--- it is one of them, or none has come
-abbrev OneOf : Fault → List Fault → Type 0
-OneOf x fs = (i : ℕ) × ((i < length fs) × (get_or fs i no_fault ≡ x))
+-- it is one of them; d stands for any that is not there
+abbrev OneOf : Fault → Fault → List Fault → Type 0
+OneOf d x fs = (i : ℕ) × ((i < length fs) × (get_or fs i d ≡ x))
 
-one_of : (f : Fault) (fs : List Fault) → (worst f fs ≡ f) ⊎ OneOf (worst f fs) fs
-unfolding worst
-one_of f [] = inl refl
-one_of f (g ∷ gs) = ⊎_elim here (λ (x : OneOf (worst (worse f g) gs) gs).
-    inr (suc x.0, (omega (arith, x.1.0), x.1.1))) (one_of (worse f g) gs)
+one_of : (d f : Fault) (fs : List Fault) → (least f fs ≡ f) ⊎ OneOf d (least f fs) fs
+unfolding least better
+one_of d f [] = inl refl
+one_of d f (g ∷ gs) = ⊎_elim here (λ (x : OneOf d (least (better f g) gs) gs).
+    inr (suc x.0, (omega (arith, x.1.0), x.1.1))) (one_of d (better f g) gs)
   where
-    here : worst (worse f g) gs ≡ worse f g → (worst (worse f g) gs ≡ f) ⊎ OneOf (worst (worse f g) gs) (g ∷ gs)
-    here e = go (before g f) (worse_by f g)
+    here : least (better f g) gs ≡ better f g → (least (better f g) gs ≡ f) ⊎ OneOf d (least (better f g) gs) (g ∷ gs)
+    here e = go (before g f) refl
       where
-        go : (x : Bool) → worse f g ≡ cond x g f → (worst (worse f g) gs ≡ f) ⊎ OneOf (worst (worse f g) gs) (g ∷ gs)
+        go : (x : Bool) → better f g ≡ cond x g f → (least (better f g) gs ≡ f) ⊎ OneOf d (least (better f g) gs) (g ∷ gs)
         go true k = inr (0, (omega arith, sym (e ∙ k)))
         go false k = inl (e ∙ k)
 
 -- ## The answer
 
 abbrev pub document_number : Fault → ℕ
-document_number f = number_of (rule_of f.number)
+document_number f = number_of f.rule
 
-by_answer : (f : Fault) (t : Table) → ((f.number ≡ 0) × ((answer_by f t).answer ≡ Sound))
-    ⊎ ((0 < f.number) × ((answer_by f t).answer ≡ Refused (refusal f)))
-unfolding answer_by
-by_answer f t = go (eqb f.number 0) refl
+said : Option Fault → Answer
+said None = sound
+said (Some f) = refused f
+
+read_said : (text : List ℕ) → (read_of text).answer ≡ said (worst no_fault (faults_of text))
+unfolding read_of answer_plain faults_of answer_by said
+read_said text = by (worst no_fault (faults_of text)) _
   where
-    go : (x : Bool) → eqb f.number 0 ≡ x →
-        ((f.number ≡ 0) × ((cond x (answered Sound t) (answered (Refused (refusal f)) no_table)).answer ≡ Sound))
-        ⊎ ((0 < f.number) × ((cond x (answered Sound t) (answered (Refused (refusal f)) no_table)).answer ≡ Refused (refusal f)))
-    go true e = inl (eqb-true f.number 0 e, refl)
-    go false e = inr (pos_of_ne-zero (eqb-false f.number 0 e), refl)
+    by : (f : Option Fault) (t : Table) → (answer_by f t).answer ≡ said f
+    by None t = refl
+    by (Some f) t = refl
 
-read_by : (text : List ℕ) → (((worst no_fault (faults_of text)).number ≡ 0) × ((read_of text).answer ≡ Sound))
-    ⊎ ((0 < (worst no_fault (faults_of text)).number) × ((read_of text).answer ≡ Refused (refusal (worst no_fault (faults_of text)))))
-unfolding read_of answer_plain faults_of
-read_by text = by_answer (worst no_fault (faults_of text)) _
+none_said : (fs : List Fault) → said (worst no_fault fs) ≡ sound → fs ≡ []
+unfolding said worst worse
+none_said [] h = refl
+none_said (f ∷ fs) h = absurd (let e = rw (worst_least f fs) at h in cc)
 
-abbrev is_sound : Answer → Bool
-is_sound Sound = true
-is_sound (Refused x) = false
-is_sound NoRoom = false
+-- of a refusal x, which stands for any that is not there
+module _ (x : Fault) where
+  least_said : (f : Fault) (fs : List Fault) → said (worst no_fault (f ∷ fs)) ≡ refused x → least f fs ≡ x
+  unfolding said worst worse
+  least_said f fs h = let e = rw (worst_least f fs) at h in cc
 
-abbrev refusal_in : Refusal → Answer → Refusal
-refusal_in d Sound = d
-refusal_in d (Refused x) = x
-refusal_in d NoRoom = d
+  one_said : (fs : List Fault) → said (worst no_fault fs) ≡ refused x → OneOf x x fs
+  unfolding said worst
+  one_said [] h = absurd (cc)
+  one_said (f ∷ fs) h =
+      ⊎_elim (λ (e : least f fs ≡ f). (0, (omega arith, sym e ∙ least_said f fs h)))
+      (λ (o : OneOf x (least f fs) fs). (suc o.0, (omega (arith, o.1.0), o.1.1 ∙ least_said f fs h))) (one_of x f fs)
+
+  first_said : (fs : List Fault) → said (worst no_fault fs) ≡ refused x → (i : ℕ) → i < length fs → Before (get_or fs i x) x → ⊥
+  first_said [] h i l b = omega arith
+  first_said (f ∷ fs) h zero l b = not_begin f fs (subst (λ (y : Fault). Before f y) (sym (least_said f fs h)) b)
+  first_said (f ∷ fs) h (suc i) l b =
+      none_before x f fs i (omega arith) (subst (λ (y : Fault). Before (get_or fs i x) y) (sym (least_said f fs h)) b)
 
 -- ## The promise
 
 module _ (text : List ℕ) where
-  abbrev pub fault_at : ℕ → Fault
-  fault_at i = get_or (faults_of text) i no_fault
-
   -- a table: no fault
-  pub sound_no_fault : (read_of text).answer ≡ Sound → (i : ℕ) → i < length (faults_of text) → (fault_at i).number ≡ 0
-  sound_no_fault h i l = ⊎_elim none (λ (r : (0 < (worst no_fault (faults_of text)).number)
-      × ((read_of text).answer ≡ Refused (refusal (worst no_fault (faults_of text))))).
-      absurd (true≢false (ap is_sound (sym h ∙ r.1)))) (read_by text)
-    where
-      none : ((worst no_fault (faults_of text)).number ≡ 0) × ((read_of text).answer ≡ Sound) → (fault_at i).number ≡ 0
-      none r =
-          ⊎_elim (λ (p : 0 < (fault_at i).number). absurd (none_before no_fault (faults_of text) i l (p, inl r.0)))
-          (λ (p : (fault_at i).number ≤ 0). omega arith)
-          (lt_or_le 0 (fault_at i).number)
+  pub sound_no_fault : (read_of text).answer ≡ sound → faults_of text ≡ []
+  sound_no_fault h = none_said (faults_of text) (sym (read_said text) ∙ h)
 
-  module _ (x : Refusal) (h : (read_of text).answer ≡ Refused x) where
-    least_is : refusal (worst no_fault (faults_of text)) ≡ x
-    least_is =
-        ⊎_elim (λ (r : ((worst no_fault (faults_of text)).number ≡ 0) × ((read_of text).answer ≡ Sound)).
-        absurd (true≢false (ap is_sound (sym r.1 ∙ h))))
-        (λ (r : (0 < (worst no_fault (faults_of text)).number) × ((read_of text).answer ≡ Refused (refusal (worst no_fault (faults_of text))))).
-        ap (refusal_in x) (sym r.1 ∙ h))
-        (read_by text)
+  module _ (x : Fault) (h : (read_of text).answer ≡ refused x) where
+    abbrev pub fault_at : ℕ → Fault
+    fault_at i = get_or (faults_of text) i x
 
     -- a refusal is a fault of the text
-    pub refused_fault : (i : ℕ) × ((i < length (faults_of text)) × (refusal (fault_at i) ≡ x))
-    refused_fault =
-        ⊎_elim (λ (e : worst no_fault (faults_of text) ≡ no_fault). absurd (gone e))
-        (λ (o : OneOf (worst no_fault (faults_of text)) (faults_of text)).
-        (o.0, (o.1.0, ap refusal o.1.1 ∙ least_is))) (one_of no_fault (faults_of text))
-      where
-        gone : worst no_fault (faults_of text) ≡ no_fault → ⊥
-        gone e =
-            ⊎_elim (λ (r : ((worst no_fault (faults_of text)).number ≡ 0) × ((read_of text).answer ≡ Sound)).
-            true≢false (ap is_sound (sym r.1 ∙ h)))
-            (λ (r : (0 < (worst no_fault (faults_of text)).number)
-            × ((read_of text).answer ≡ Refused (refusal (worst no_fault (faults_of text))))).
-            let n : (worst no_fault (faults_of text)).number ≡ 0 = ap (λ (f : Fault). f.number) e in omega (arith, r.0)) (read_by text)
+    pub refused_fault : (i : ℕ) × ((i < length (faults_of text)) × (fault_at i ≡ x))
+    refused_fault = one_said x (faults_of text) (sym (read_said text) ∙ h)
 
     -- none stands at an earlier place, and none with a lower number at the same one
-    pub refused_first : (i : ℕ) → i < length (faults_of text) → 0 < (fault_at i).number →
+    pub refused_first : (i : ℕ) → i < length (faults_of text) →
         (((fault_at i).place < x.place) ⊎ (((fault_at i).place ≡ x.place) × (document_number (fault_at i) < number_of x.rule))) → ⊥
-    refused_first i l p b = none_before no_fault (faults_of text) i l
-        (p, inr (⊎_elim (λ (q : (fault_at i).place < x.place). inl (omega (arith, place))) lower b))
-      where
-        least : Fault
-        least = worst no_fault (faults_of text)
-
-        place : least.place ≡ x.place
-        place = ap (λ (y : Refusal). y.place) least_is
-
-        number : document_number least ≡ number_of x.rule
-        number = ap (λ (y : Refusal). number_of y.rule) least_is
-
-        lower : ((fault_at i).place ≡ x.place) × (document_number (fault_at i) < number_of x.rule) →
-            ((fault_at i).place < least.place) ⊎ (((fault_at i).place ≡ least.place) × ((fault_at i).number < least.number))
-        lower q = inr (q.0 ∙ sym place, omega (arith, q.1, number, clamped (fault_at i).number, clamped least.number))
+    refused_first i l b = first_said x (faults_of text) (sym (read_said text) ∙ h) i l b

@@ -1,14 +1,12 @@
 -- Laws of the reader: what ends a reading, what the state after a reading says, and the answer by the least fault.
-use Rattle.std.specs.Prelude.{◌<◌, ◌≤◌, ◌&&◌, ◌∷◌, ◌++◌, ◌≡◌}
-use Rattle.common.specs.Words.{ℕ, zero, suc, min, arith, ⊎_elim, Bool, true, false, true≢false, List, [], refl, sym, ap, ◌∙◌, eqb, eq-eqb}
-use Rattle.common.specs.Words.{ne_eqb, leb, leb-true, ltb, length, length-append, take, take_all, length-take-le, get_or, get_or-replicate}
+use Rattle.std.specs.Prelude.{◌<◌, ◌≤◌, ◌&&◌, ◌∷◌, ◌++◌, ◌≡◌, Result, Ok, Err, Option, None, Some}
+use Rattle.common.specs.Words.{ℕ, zero, suc, min, arith, ⊎_elim, Bool, true, false, true≢false, List, [], refl, sym, ap, ◌∙◌}
+use Rattle.common.specs.Words.{leb, leb-true, ltb, length, length-append, take, take_all, length-take-le, get_or, get_or-replicate}
 use Rattle.common.specs.Tests.{lt_or_le}
 use Rattle.plain.specs.Plain.{plain_of}
 use Rattle.plain.specs.Case.{plain_length}
 use Rattle.tokens.specs.Tokens.{from}
-use Rattle.tokens.specs.Laws.{cases}
-use Rattle.steps.specs.declared.Fault.{Fault}
-use Rattle.steps.specs.declared.Went.{Went}
+use Rattle.steps.specs.declared.faults.Fault.{Fault}
 use Rattle.steps.specs.Faults.{no_fault, worse, worst}
 use Rattle.steps.specs.Lifted.{lift}
 use Rattle.rows.specs.Rows.{store, with_rows}
@@ -24,40 +22,38 @@ use Rattle.texts.specs.Wide.{whole_wide}
 use Rattle.verdict.specs.Verdict.{judged}
 use Rattle.kit.specs.Kit.{table_of, Ranked}
 use Rattle.kit.specs.Priorities.{priorities_fit}
-use Rattle.findings.specs.declared.Answer.TheVariants.{Sound, Refused, NoRoom}
-use Rattle.findings.specs.declared.Read.{Read}
 use Rattle.findings.specs.declared.Table.{Table}
-use Rattle.findings.specs.Findings.{no_table, answered}
-use Rattle.reader.specs.Reader.{most_bytes, most_rows, tree_room, rows_room, plain_text, read_from, end_faults, long_faults, faults_in, refusal}
+use Rattle.findings.specs.Findings.{sound, refused, no_room, no_table, answered}
+use Rattle.reader.specs.Reader.{most_bytes, most_rows, tree_room, rows_room, plain_text, read_from, end_faults, long_faults, faults_in}
 use Rattle.reader.specs.Reader.{answer_by, answer_read, answer_plain, read_of, enough, answer, Fitting}
 use Rattle.reader.specs.StoredRows.{Held, stored_held}
 
 -- ## What ends a reading
 
-module _ (p : List ℕ) (x : Fault) (fs : List Fault) (long : Bool) where
-  pub end_stopped : (w : Went) (f : Fault) → w ≡ Went.Stopped f → worse x f ≡ worst x (end_faults (lift p w) long fs)
+module _ (p : List ℕ) (x : Option Fault) (fs : List Fault) (long : Bool) where
+  pub end_stopped : (w : Result ℕ Fault) (f : Fault) → w ≡ Err f → worse x (Some f) ≡ worst x (end_faults (lift p w) long fs)
   unfolding worst
   end_stopped w f e = rw e
 
-  pub end_long : (w : Went) (at : ℕ) → w ≡ Went.To at → long ≡ true → x ≡ worst x (end_faults (lift p w) long fs)
+  pub end_long : (w : Result ℕ Fault) (at : ℕ) → w ≡ Ok at → long ≡ true → x ≡ worst x (end_faults (lift p w) long fs)
   unfolding worst
   end_long w at e h = rw (e, h)
 
-  pub end_judged : (w : Went) (at : ℕ) → w ≡ Went.To at → long ≡ false → worst x fs ≡ worst x (end_faults (lift p w) long fs)
+  pub end_judged : (w : Result ℕ Fault) (at : ℕ) → w ≡ Ok at → long ≡ false → worst x fs ≡ worst x (end_faults (lift p w) long fs)
   end_judged w at e h = rw (e, h)
 
 -- ## The answer
 
 -- by the least fault, which the code finds in two steps
-module _ (p m : List ℕ) (r : Reading) (long : Bool) {noted least : Fault} (e : noted ≡ worst r.fault (long_faults long))
+module _ (p m : List ℕ) (r : Reading) (long : Bool) {noted least : Option Fault} (e : noted ≡ worst r.fault (long_faults long))
     (g : least ≡ worst noted (end_faults (lift p r.went) long (judged p (rows_in r.count m)))) where
-  pub answer_refused : (least.number ≡ 0 → ⊥) → answered (Refused (refusal least)) no_table ≡ answer_read p m r long
+  pub answer_refused : (f : Fault) → least ≡ Some f → answered (refused f) no_table ≡ answer_read p m r long
   unfolding answer_read answer_by
-  answer_refused h = rw (← e, ← g, ne_eqb least.number 0 h)
+  answer_refused f h = rw (← e, ← g, h)
 
-  pub answer_sound : (least.number ≡ 0) → {t : Table} → t ≡ table_of p (rows_in r.count m) → answered Sound t ≡ answer_read p m r long
+  pub answer_sound : least ≡ None → {t : Table} → t ≡ table_of p (rows_in r.count m) → answered sound t ≡ answer_read p m r long
   unfolding answer_read answer_by
-  answer_sound h f = rw (← e, ← g, eq-eqb least.number 0 h, f)
+  answer_sound h f = rw (← e, ← g, h, f)
 
 -- ## What the state after a reading says
 
@@ -109,7 +105,7 @@ read_answer p r m n long e l h =
     let s = read_from p in
     let ends = end_faults s.went long (judged p s.rows) in
     let q : worst no_fault (s.notes ++ long_faults long ++ ends) ≡ worst (worst (worst no_fault s.notes) (long_faults long)) ends =
-    worst_append no_fault (s.notes ++ long_faults long) ends ∙ ap (λ (f : Fault). worst f ends)
+    worst_append no_fault (s.notes ++ long_faults long) ends ∙ ap (λ (f : Option Fault). worst f ends)
     (worst_append no_fault s.notes (long_faults long)) in
     rw (read_rows p r m n e l h, read_went p r m n e, read_fault p r m n e, q)
 
@@ -185,7 +181,7 @@ plain_front text x y n e f =
 
 -- ## The whole call
 
-pub answer_none : (room : Bool) (text : List ℕ) → room ≡ false → answered NoRoom no_table ≡ answer room text
+pub answer_none : (room : Bool) (text : List ℕ) → room ≡ false → answered no_room no_table ≡ answer room text
 unfolding answer
 answer_none room text h = rw h
 
@@ -206,9 +202,11 @@ enough_plain plain rows declared connected queued types h =
 
 pub priorities_low : (text : List ℕ) (i : ℕ) → i < 16 → get_or (read_of text).table.priority i 0 ≤ 255
 unfolding read_of answer_plain answer_by table_of
-priorities_low text i l =
-    let p = plain_text text in
-    let P : Read → Type 0 = λ (r : Read). get_or r.table.priority i 0 ≤ 255 in
-    cases P (eqb (worst no_fault (faults_in p (ltb most_bytes (length text)))).number 0)
-    (λ _. priorities_fit p (read_from p).rows (record { low = wide_low (read_from p).rows (read_wide p) }) i l)
-    (λ _. rw (get_or-replicate {A = ℕ} _ i 0 0 l) (omega arith))
+priorities_low text i l = by (worst no_fault (faults_in p (ltb most_bytes (length text))))
+  where
+    p : List ℕ
+    p = plain_text text
+
+    by : (f : Option Fault) → get_or (answer_by f (table_of p (read_from p).rows)).table.priority i 0 ≤ 255
+    by None = priorities_fit p (read_from p).rows (record { low = wide_low (read_from p).rows (read_wide p) }) i l
+    by (Some f) = rw (get_or-replicate {A = ℕ} _ i 0 0 l) (omega arith)

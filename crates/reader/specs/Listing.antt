@@ -2,12 +2,11 @@
 use Rattle.std.specs.Prelude.{◌∷◌, ◌++◌, ◌≡◌}
 use Rattle.common.specs.Words.{ℕ, true, false, List, refl, replicate}
 use Rattle.words.specs.Letters.{letters, words_by, same}
-use Rattle.findings.specs.declared.Answer.TheVariants.{Sound}
 use Rattle.findings.specs.declared.Table.{Table}
-use Rattle.findings.specs.Findings.{rule_of, answered}
+use Rattle.findings.specs.Findings.{sound, answered}
 use Rattle.common.specs.Table.{table}
 use Rattle.words.specs.Found.{sum_by, number_by, padded}
-use Rattle.words.specs.Words.{listed, rank, kind_of}
+use Rattle.words.specs.Words.{kinds, listed, rank, kind_of}
 use Rattle.plain.specs.Plain.{lower, two, three, string_by, close_by, annex_rest, begun, step_of, plain_by, mark_rest, plain_of}
 use Rattle.tokens.specs.Spots.{behind}
 use Rattle.tokens.specs.Tokens.{sort_of, run, word_shape, number_width, sign_shape, shape_of, tokens_by, from}
@@ -68,8 +67,8 @@ table_a = record {
   sends = true ∷ true ∷ replicate 126 false;
 }
 
-pub listing_1_is_table_a : read_of listing1 ≡ answered Sound table_a
-unfolding table sum_by number_by padded words_by same listed rank kind_of lower two three string_by close_by annex_rest begun step_of plain_by
+pub listing_1_is_table_a : read_of listing1 ≡ answered sound table_a
+unfolding table sum_by number_by padded words_by same kinds listed rank kind_of lower two three string_by close_by annex_rest begun step_of plain_by
     mark_rest plain_of
     behind sort_of run word_shape number_width sign_shape shape_of tokens_by from worse worst any the name own optional many_by many part_kind
     value_by
@@ -93,7 +92,7 @@ unfolding table sum_by number_by padded words_by same listed rank kind_of lower 
     implementation_of way_by
     way first_in property_of port_of ends_of again_faults thread_faults out_faults in_faults twice_faults join_faults end_faults link_faults
     row_faults
-    faults_below process_faults judged chosen_below threads_of queues_of position receiver_of joins table_of read_from faults_in faults_of rule_of
+    faults_below process_faults judged chosen_below threads_of queues_of position receiver_of joins table_of read_from faults_in faults_of
     answer_by
     answer_plain read_of Rattle.declarations.specs.Sections.listed Rattle.others.specs.Others.other_kind Rattle.texts.specs.Texts.part_kind
     Rattle.ways.specs.Ways.ends Rattle.kit.specs.Kit.figure_of

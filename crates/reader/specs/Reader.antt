@@ -1,9 +1,11 @@
 -- AADL.md, section 6: a text's faults, and what it is answered with.
-use Rattle.std.specs.Prelude.{◌+◌, ◌*◌, ◌^◌, ◌<◌, ◌≤◌, ◌&&◌, ◌∷◌, ◌++◌}
-use Rattle.common.specs.Words.{ℕ, Bool, cond, List, [], eqb, ltb, leb, length, take}
+use Rattle.std.specs.Prelude.{◌+◌, ◌*◌, ◌^◌, ◌<◌, ◌≤◌, ◌&&◌, ◌∷◌, ◌++◌, Option, None, Some}
+use Rattle.common.specs.Words.{ℕ, Bool, cond, List, [], ltb, leb, length, take}
 use Rattle.plain.specs.Plain.{plain_of}
 use Rattle.tokens.specs.Tokens.{from}
-use Rattle.steps.specs.declared.Fault.{Fault}
+use Rattle.steps.specs.declared.faults.Fault.{Fault}
+use Rattle.steps.specs.declared.faults.Rule.TheVariants.{Unfit}
+use Rattle.steps.specs.declared.faults.Why.{Why}
 use Rattle.steps.specs.Faults.{fault, no_fault, worst}
 use Rattle.steps.specs.Steps.{Step, On, Stop}
 use Rattle.steps.specs.Lifted.{lift}
@@ -11,15 +13,12 @@ use Rattle.rows.specs.declared.Reading.{Reading}
 use Rattle.rows.specs.Said.{Said, no_props}
 use Rattle.texts.specs.Texts.{whole_text}
 use Rattle.verdict.specs.Verdict.{judged}
-use Rattle.index.specs.Index.{rows_in, Indexed}
+use Rattle.index.specs.Index.{rows_in}
 use Rattle.rows.specs.Rows.{row_words}
-use Rattle.ways.specs.Ways.{Known}
 use Rattle.kit.specs.Kit.{table_of, Ranked}
-use Rattle.findings.specs.declared.Answer.TheVariants.{Sound, Refused, NoRoom}
 use Rattle.findings.specs.declared.Read.{Read}
-use Rattle.findings.specs.declared.Refusal.{Refusal}
 use Rattle.findings.specs.declared.Table.{Table}
-use Rattle.findings.specs.Findings.{too_long, rule_of, no_table, answered}
+use Rattle.findings.specs.Findings.{sound, refused, no_room, no_table, answered}
 
 -- ## Faults
 
@@ -39,9 +38,13 @@ abbrev pub end_faults : Step → Bool → List Fault → List Fault
 end_faults (Stop f) long fs = f ∷ []
 end_faults (On ts) long fs = cond long [] fs
 
+-- for people: the text is too long
+abbrev pub too_long : Why
+too_long = Why.TooLong
+
 -- "20 at 262,144 is then noted, and it is judged no further"
 abbrev pub long_faults : Bool → List Fault
-long_faults long = cond long (fault 20 most_bytes too_long ∷ []) []
+long_faults long = cond long (fault Unfit most_bytes too_long ∷ []) []
 
 -- the faults of a plain text, and of one that is longer
 unfoldable pub faults_in : List ℕ → Bool → List Fault
@@ -52,12 +55,10 @@ faults_of text = faults_in (plain_text text) (ltb most_bytes (length text))
 
 -- ## The answer
 
-abbrev pub refusal : Fault → Refusal
-refusal f = record { rule = rule_of f.number; place = f.place; why = f.why }
-
 -- "The least place decides, at one place the lower number": the table, or the refusal by the least fault
-unfoldable pub answer_by : Fault → Table → Read
-answer_by f t = cond (eqb f.number 0) (answered Sound t) (answered (Refused (refusal f)) no_table)
+unfoldable pub answer_by : Option Fault → Table → Read
+answer_by None t = answered sound t
+answer_by (Some f) t = answered (refused f) no_table
 
 unfoldable pub answer_plain : List ℕ → Bool → Read
 answer_plain p long = answer_by (worst no_fault (faults_in p long)) (table_of p (read_from p).rows)
@@ -90,7 +91,7 @@ enough plain rows declared connected queued types =
     (leb tree_room connected && (leb tree_room queued && leb most_rows types))))
 
 unfoldable pub answer : Bool → List ℕ → Read
-answer room text = cond room (read_of text) (answered NoRoom no_table)
+answer room text = cond room (read_of text) (answered no_room no_table)
 
 -- so many rows fit, and no Priority of theirs is over 255
 pub record Fitting (count : ℕ) (rows declared connected queued types : List ℕ) : Type 0 where
@@ -100,11 +101,4 @@ pub record Fitting (count : ℕ) (rows declared connected queued types : List �
   pub joined : 2 * count + 2 ≤ length connected
   pub lined : 2 * count + 2 ≤ length queued
   pub typed : count ≤ length types
-  pub ranked : Ranked (rows_in count rows)
-
--- the dictionaries of the rows, and the types above them
-pub record Prepared (p rows declared connected queued types : List ℕ) (count : ℕ) : Type 0 where
-  pub known : Known p rows declared types count
-  pub connections : Indexed p 1 rows connected count
-  pub queues : Indexed p 2 rows queued count
   pub ranked : Ranked (rows_in count rows)

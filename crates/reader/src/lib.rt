@@ -2,26 +2,23 @@
 #![tactic(auto)]
 
 ghost use Rattle.std.specs.Prelude.{◌≡◌, ◌≤◌};
-ghost use Rattle.common.specs.Words.{true, length, min, take};
+ghost use Rattle.common.specs.Words.{true, length, take};
 ghost use Rattle.steps.specs.Faults.{worst};
 ghost use Rattle.steps.specs.Lifted.{lift};
-ghost use Rattle.index.specs.Index.{rows_in, Indexed};
-ghost use Rattle.ways.specs.Ways.{Known};
+ghost use Rattle.ways.specs.Named.{text_of, all_rows};
 ghost use Rattle.verdict.specs.Verdict.{judged};
-ghost use Rattle.findings.specs.declared.Answer.TheVariants.{Refused};
-ghost use Rattle.findings.specs.Findings.{no_table, answered};
-ghost use Rattle.reader.specs.Reader.{most_bytes, end_faults, long_faults, refusal, plain_text, answer_read, answer_plain, enough, Fitting, Prepared};
+ghost use Rattle.reader.specs.Reader.{most_bytes, end_faults, long_faults, plain_text, answer_read, answer_plain, enough, Fitting};
 ghost use Rattle.reader.specs.Unique.{ReadGives};
 
-use findings::{Answer, Read, Refusal, TOO_LONG, no_table, rule_of};
-use index::{CONNECTED, DECLARED, QUEUED, build};
-use kit::make_table;
+use findings::{Problem, Read, no_table};
+use index::{CONNECTED, DECLARED, Dictionary, QUEUED, Rows, build};
+use kit::{Prepared, make_table};
 use plain::make_plain;
 use rows::Reading;
-use steps::{Fault, Went, worse};
+use steps::{Fault, Rule, Went, Why, worse};
 use texts::read;
-use verdict::judge;
-use ways::set_types;
+use verdict::{Joined, judge};
+use ways::{Names, set_types};
 
 // How much of a text is read, and how much memory is enough for any text.
 pub const MOST_BYTES: usize = 262_144;
@@ -32,151 +29,82 @@ pub const ROWS_ROOM: usize = 291_270;
 
 pub const TREE_ROOM: usize = 58_256;
 
-fn refused(fault: Fault) -> Read
-    ensures { result ≡ answered (Refused (refusal fault)) no_table }
-{
-    Read {
-        answer: Answer::Refused(Refusal {
-            rule: rule_of(fault.number),
-            place: fault.place,
-            why: fault.why,
-        }),
-        table: no_table(),
-    }
-}
-
-// Builds the dictionaries of the rows.
-fn prepare(
-    text: &[u8],
-    rows: &[usize],
-    declared: &mut [u32],
-    connected: &mut [u32],
-    queued: &mut [u32],
-    types: &mut [u32],
-    count: usize,
-)
-    requires { Fitting count rows.now declared.old connected.old queued.old types.old }
-    ensures { Prepared text.now rows.now declared.new
-        connected.new queued.new types.new count }
-{
-    build(text, rows, declared, DECLARED, count);
-    build(text, rows, connected, CONNECTED, count);
-    build(text, rows, queued, QUEUED, count);
-    set_types(text, rows, declared, types, count);
-}
-
 // The least fault so far, with that of a text which is too long.
-fn with_length(fault: Fault, long: bool) -> Fault
+#[tactic(auto, unfolding(steps::specs::Faults::worst))]
+fn with_length(fault: Option<Fault>, long: bool) -> Option<Fault>
     ensures { result ≡ worst fault (long_faults long) }
 {
     if !long {
         return fault;
     }
     let limit = Fault {
-        number: 20,
+        rule: Rule::Unfit,
         place: MOST_BYTES,
-        why: TOO_LONG,
+        why: Why::TooLong,
     };
-    worse(fault, limit)
+    worse(fault, Some(limit))
 }
 
 // The least of the faults that were found and those that the judgement finds in a text that was read to its end.
-fn least_fault(
-    text: &[u8],
-    rows: &[usize],
-    declared: &[u32],
-    connected: &[u32],
-    types: &[u32],
-    reading: Reading,
-    fault: Fault,
-    long: bool,
-) -> Fault
-    requires { Known text.now rows.now declared.now types.now reading.count
-        × Indexed text.now 1 rows.now connected.now reading.count }
-    ensures { result ≡ worst fault (end_faults (lift text.now reading.went) long
-        (judged text.now (rows_in reading.count rows.now))) }
+fn least_fault(joined: &Joined<'_>, went: Went, fault: Option<Fault>, long: bool) -> Option<Fault>
+    ensures { result ≡ worst fault (end_faults (lift (text_of joined.now.names) went) long
+        (judged (text_of joined.now.names) (all_rows joined.now.names))) }
 {
-    let went = reading.went;
-    if let Went::Stopped(f) = went {
-        return worse(fault, f);
+    match went {
+        Err(stopped) => worse(fault, Some(stopped)),
+        Ok(_) if long => fault,
+        Ok(_) => judge(joined, fault),
     }
-    if long {
-        return fault;
-    }
-    judge(text, rows, declared, connected, types, reading.count, fault)
 }
 
 // The answer to a plain text whose rows were read, with their dictionaries.
-fn answer_prepared(
-    text: &[u8],
-    rows: &[usize],
-    declared: &[u32],
-    connected: &[u32],
-    queued: &[u32],
-    types: &[u32],
-    reading: Reading,
-    long: bool,
-) -> Read
-    requires { Prepared text.now rows.now declared.now connected.now queued.now types.now reading.count }
-    ensures { result ≡ answer_read text.now rows.now reading long }
+fn answer_prepared(prepared: &Prepared<'_>, reading: &Reading, long: bool) -> Read
+    requires { prepared.now.joined.names.declared.rows.count ≡ reading.now.count }
+    ensures { result ≡ answer_read (text_of prepared.now.joined.names) prepared.now.joined.names.declared.rows.memory.now reading.now long }
 {
-    let noted = reading.fault;
-    let fault = with_length(noted, long);
-    let least = least_fault(text, rows, declared, connected, types, reading, fault, long);
-    if least.number != 0 {
-        return refused(least);
-    }
-    Read {
-        answer: Answer::Sound,
-        table: make_table(
-            text,
-            rows,
-            declared,
-            connected,
-            queued,
-            types,
-            reading.count,
-        ),
+    let noted = with_length(reading.fault, long);
+    match least_fault(&prepared.joined, reading.went, noted, long) {
+        Some(fault) => Read {
+            answer: Err(Problem::Refused(fault)),
+            table: no_table(),
+        },
+        None => Read {
+            answer: Ok(()),
+            table: make_table(prepared),
+        },
     }
 }
 
 // The answer to a plain text whose rows were read.
-fn answer_read(
-    text: &[u8],
-    rows: &[usize],
-    declared: &mut [u32],
-    connected: &mut [u32],
-    queued: &mut [u32],
-    types: &mut [u32],
-    reading: Reading,
+fn answer_read<'a>(
+    text: &'a [u8],
+    memory: &'a [usize],
+    declared: &'a mut [u32],
+    connected: &'a mut [u32],
+    queued: &'a mut [u32],
+    types: &'a mut [u32],
+    reading: &Reading,
     long: bool,
 ) -> Read
-    requires { Fitting reading.count rows.now declared.old connected.old queued.old types.old }
-    ensures { result ≡ answer_read text.now rows.now reading long }
+    requires { Fitting reading.now.count memory.now declared.old connected.old queued.old types.old }
+    ensures { result ≡ answer_read text.now memory.now reading.now long }
 {
-    prepare(
+    let rows = Rows {
+        memory,
+        count: reading.count,
+    };
+    build::<DECLARED>(text, &rows, declared);
+    build::<CONNECTED>(text, &rows, connected);
+    build::<QUEUED>(text, &rows, queued);
+    let declared = Dictionary {
         text,
         rows,
-        declared,
-        connected,
-        queued,
-        types,
-        reading.count,
-    );
-    answer_prepared(
-        text, rows, declared, connected, queued, types, reading, long,
-    )
-}
-
-// How many bytes of a text are read.
-fn bytes_read(bytes: usize) -> usize
-    ensures { result ≡ min most_bytes bytes }
-{
-    if MOST_BYTES <= bytes {
-        MOST_BYTES
-    } else {
-        bytes
-    }
+        tree: declared,
+    };
+    set_types(&declared, types);
+    let names = Names { declared, types };
+    let joined = Joined { names, connected };
+    answer_prepared(&Prepared { joined, queued }, reading, long)
 }
 
 // The plain text of what is read of a text, and how many bytes it has.
@@ -185,7 +113,7 @@ fn plain_bytes(text: &[u8], plain: &mut [u8]) -> usize
     ensures { (result ≤ most_bytes) × (result ≤ length plain.new)
         × (take result plain.new ≡ plain_text text.now) }
 {
-    let n = bytes_read(text.len());
+    let n = MOST_BYTES.min(text.len());
     make_plain(&text[..n], &mut plain[..n]);
     n
 }
@@ -207,11 +135,12 @@ fn read_plain(
 {
     let reading = read(text, rows);
     answer_read(
-        text, rows, declared, connected, queued, types, reading, long,
+        text, rows, declared, connected, queued, types, &reading, long,
     )
 }
 
 // Whether so much lent memory is enough for any text.
+#[tactic(auto, unfolding(crate::specs::Reader::enough))]
 fn is_enough(
     plain: usize,
     rows: usize,
@@ -222,25 +151,16 @@ fn is_enough(
 ) -> bool
     ensures { result ≡ enough plain rows declared connected queued types }
 {
-    if plain < MOST_BYTES {
-        return false;
-    }
-    if rows < ROWS_ROOM {
-        return false;
-    }
-    if declared < TREE_ROOM {
-        return false;
-    }
-    if connected < TREE_ROOM {
-        return false;
-    }
-    if queued < TREE_ROOM {
-        return false;
-    }
-    types >= MOST_ROWS
+    plain >= MOST_BYTES
+        && rows >= ROWS_ROOM
+        && declared >= TREE_ROOM
+        && connected >= TREE_ROOM
+        && queued >= TREE_ROOM
+        && types >= MOST_ROWS
 }
 
-// The table of a text. What the lent memory holds afterwards means nothing.
+// The table of a text. What the lent memory holds afterwards means nothing. It is lent piece by piece: no proof is generated for a
+// parameter that holds a `&mut` and is taken apart.
 pub fn read_table(
     text: &[u8],
     plain: &mut [u8],
@@ -263,7 +183,7 @@ pub fn read_table(
     );
     if !room {
         return Read {
-            answer: Answer::NoRoom,
+            answer: Err(Problem::NoRoom),
             table: no_table(),
         };
     }

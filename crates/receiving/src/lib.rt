@@ -1,142 +1,95 @@
 // Receive: a look at the receiver's next message, which changes nothing, and then a step on from the answer, which is the crate `stepping`.
-// The columns are lent, as to a send.
+// The plan is lent, as to a send, and of a state its tick and the one column that is changed.
 #![tactic(auto)]
 
-ghost use Rattle.std.specs.Prelude.{◌≡◌};
+ghost use Rattle.std.specs.Prelude.{◌≡◌, ◌<◌, ◌≤◌};
 ghost use Rattle.common.specs.Words.{get_or};
-ghost use Rattle.plan.specs.Plan.{lent_plan};
-ghost use Rattle.plan.specs.Rules.{sound_plan};
-ghost use Rattle.window.specs.Window.{Remembers};
-ghost use Rattle.running.specs.Calls.{look, ReceiveLeaves};
+ghost use Rattle.model.specs.Model.{up_to};
+ghost use Rattle.plan.specs.Limits.{last_tick};
+ghost use Rattle.plan.specs.Plan.{queue_at, Usable};
+ghost use Rattle.judge.specs.Taken.{Ground};
+ghost use Rattle.window.specs.Window.{plan_window, Remembers};
+ghost use Rattle.running.specs.Calls.{found, look, ReceiveLeaves};
 
 use calendar::{Number, Tick};
+use judge::Tested;
 use plan::Plan;
-use plan::refusal::Verdict;
-use running::{Received, ReceivedAt, Remembered};
+use running::{Looked, Received, Remembered};
+use window::WindowEnds;
 
-// What a look answers, and the window that it looked into.
-#[derive(Drop)]
-struct Looked {
-    answer: Received,
-    remembered: Remembered,
+// The window of the receiver's running job: the one that is remembered, where it is the same job's.
+fn running_window(plan: &Plan, queue: usize, at: Tick, remembered: Option<Remembered>) -> Remembered
+    requires { Usable plan.now queue × (at.0 ≤ last_tick) × Remembers plan.now remembered }
+    ensures { result ≡ record { queue = queue; window = plan_window plan.now queue at.0 } }
+{
+    let row = plan.receiver[queue];
+    window::window_for(plan, queue, plan.period[row], at, remembered)
 }
 
-// Answers as a receive does. `sound` says whether the plan is; `before` is the state's tick, and `reading` its column of reading places.
-fn look_on<'a>(
-    sound: bool,
-    sends: &'a [bool; Plan::CELLS],
-    period: &'a [u64; Plan::TASKS],
-    deadline: &'a [u64; Plan::TASKS],
-    priority: &'a [u8; Plan::TASKS],
-    receiver: &'a [usize; Plan::QUEUES],
-    size: &'a [usize; Plan::QUEUES],
-    place: &'a [usize; Plan::QUEUES],
-    tasks: usize,
-    queues: usize,
+// What is found under a number of a window: its message, where its slot holds it, and else a gap, which names the sender.
+fn found(plan: &Plan, memory: &[u8], queue: usize, n: Number, window: WindowEnds) -> Received
+    requires { Ground plan.now memory.now × (queue < plan.now.queues) × (window.high.0 ≤ last_tick)
+        × (up_to (queue_at plan.now queue) window.low.0 < n.0) × (n.0 ≤ up_to (queue_at plan.now queue) window.high.0) }
+    ensures { result ≡ found plan.now memory.now queue n.0 }
+{
+    let slot = slots::places::slot_for(plan.place[queue], plan.size[queue], n);
+    if slots::number_in(memory, slot) == n {
+        return Received::Message(n, slot);
+    }
+    let sender = window::sender_in(plan, queue, n, window.low, window.high);
+    Received::Gap(n, sender)
+}
+
+// Answers as a receive does. `before` is the state's tick, and `reading` its column of reading places.
+fn look_on(
+    tested: Tested,
     memory: &[u8],
     queue: usize,
     at: Tick,
     before: Tick,
     reading: &[u64; Plan::QUEUES],
-    remembered: Remembered,
+    remembered: Option<Remembered>,
 ) -> Looked
-    requires { (sound ≡ sound_plan (lent_plan sends.now period.now deadline.now priority.now receiver.now
-        size.now place.now tasks queues))
-        × Remembers (lent_plan sends.now period.now deadline.now priority.now receiver.now
-        size.now place.now tasks queues) remembered }
-    ensures { (result.answer ≡ look before.0 (get_or reading.now queue 0)
-        (lent_plan sends.now period.now deadline.now priority.now
-        receiver.now size.now place.now tasks queues)
-        memory.now queue at.0)
-        × Remembers (lent_plan sends.now period.now deadline.now priority.now
-        receiver.now size.now place.now tasks queues) result.remembered }
+    requires { Remembers tested.plan.now remembered }
+    ensures { (result.answer ≡ look before.0 (get_or reading.now queue 0) tested.entry.plan.now memory.now queue at.0)
+        × Remembers tested.entry.plan.now result.remembered }
 {
-    let verdict = judge::judge_receive(
-        sound, sends, period, deadline, priority, receiver, size, place, tasks, queues, memory,
-        queue, at, before,
-    );
-    if let Verdict::Refused(refusal) = verdict {
+    if let Err(refusal) = judge::judge_receive(tested, memory, queue, at, before) {
         return Looked {
             answer: Received::Refused(refusal),
             remembered,
         };
     }
-    let row = receiver[queue];
-    let every = period[row];
-    let seen = window::window_for(sends, period, deadline, tasks, queue, every, at, remembered);
+    let plan = tested.plan;
+    let seen = running_window(plan, queue, at, remembered);
     let window = seen.window;
     let next = window::next_number(Number(reading[queue]), window.before);
-    if window.end.0 < next.0 {
-        return Looked {
-            answer: Received::Empty,
-            remembered: seen,
-        };
-    }
-    let slot = slots::places::slot_for(place[queue], size[queue], next);
-    let held = slots::number_in(memory, slot);
-    if held.0 == next.0 {
-        return Looked {
-            answer: Received::Message(next, slot),
-            remembered: seen,
-        };
-    }
-    let sender = window::sender_in(
-        sends,
-        period,
-        deadline,
-        priority,
-        tasks,
-        queue,
-        next,
-        window.low,
-        window.high,
-    );
+    let answer = if window.end < next {
+        Received::Empty
+    } else {
+        found(plan, memory, queue, next, window)
+    };
     Looked {
-        answer: Received::Gap(next, sender),
-        remembered: seen,
+        answer,
+        remembered: Some(seen),
     }
 }
 
-// A receive: `sound` says whether the plan is, `before` is the state's tick, and `reading` its column of reading places.
-pub fn receive_on<'a>(
-    sound: bool,
-    sends: &'a [bool; Plan::CELLS],
-    period: &'a [u64; Plan::TASKS],
-    deadline: &'a [u64; Plan::TASKS],
-    priority: &'a [u8; Plan::TASKS],
-    receiver: &'a [usize; Plan::QUEUES],
-    size: &'a [usize; Plan::QUEUES],
-    place: &'a [usize; Plan::QUEUES],
-    tasks: usize,
-    queues: usize,
+// A receive: `latest` is the state's tick, and `reading` its column of reading places.
+pub fn receive_on(
+    tested: Tested,
     memory: &[u8],
+    latest: &mut Tick,
     reading: &mut [u64; Plan::QUEUES],
     queue: usize,
     at: Tick,
-    before: Tick,
-    remembered: Remembered,
-) -> ReceivedAt
-    requires { (sound ≡ sound_plan (lent_plan sends.now period.now deadline.now priority.now receiver.now
-        size.now place.now tasks queues))
-        × Remembers (lent_plan sends.now period.now deadline.now priority.now receiver.now
-        size.now place.now tasks queues) remembered }
-    ensures { ReceiveLeaves before.0 reading.old
-        (lent_plan sends.now period.now deadline.now priority.now
-        receiver.now size.now place.now tasks queues)
-        memory.now queue at.0 result reading.new
-        × Remembers (lent_plan sends.now period.now deadline.now priority.now
-        receiver.now size.now place.now tasks queues) result.remembered }
+    remembered: Option<Remembered>,
+) -> Looked
+    requires { Remembers tested.plan.now remembered }
+    ensures { ReceiveLeaves latest.old.0 reading.old tested.entry.plan.now memory.now queue at.0 result.answer latest.new reading.new
+        × Remembers tested.entry.plan.now result.remembered }
 {
-    let looked = look_on(
-        sound, sends, period, deadline, priority, receiver, size, place, tasks, queues, memory,
-        queue, at, before, reading, remembered,
-    );
-    let answer = looked.answer;
-    let seen = looked.remembered;
-    let tick = stepping::step_on(reading, queue, at, before, answer);
-    ReceivedAt {
-        answer,
-        tick,
-        remembered: seen,
-    }
+    let looked = look_on(tested, memory, queue, at, *latest, reading, remembered);
+    stepping::step_on(latest, reading, queue, at, looked.answer);
+    looked
 }

@@ -1,103 +1,82 @@
-// What was expected at a place, in words, by a refusal's `why`: the kind of a token, or what is wrong.
-ghost use Rattle.std.specs.Prelude.{◌≤◌};
-ghost use Rattle.common.specs.Words.{length};
-
+// What was expected at a place, in words, by a refusal's reason.
 use crate::found::token_at;
-use crate::put::put_padded;
-use crate::wording;
-use crate::wording::WIDTH;
-use findings::TOO_LONG;
-use properties::{FROM_OUTSIDE, SECOND_TIME};
-use steps::ITS_OWN;
-use texts::A_DECLARATION;
-use times::priorities::A_PRIORITY;
-use times::{NOT_WHOLE, UNIT_MISSING, UNIT_UNKNOWN};
-use values::{A_VALUE, TOO_DEEP};
-use verdict::{
-    CONNECTED_BEFORE, DECLARED_BEFORE, HAS_OFFSET, NO_PERIOD, NO_PROCESS, NO_SUCH_PORT,
-    NO_SUCH_THREAD, NO_SUCH_TYPE, NOT_DELAYED, NOT_PERIODIC, WRONG_DIRECTION,
-};
-use words::kinds;
+use std::fmt;
+use std::fmt::{Display, Write};
+use steps::Why;
+use words::kinds::Kind;
 
-// A token of one byte.
-fn sign_words(kind: usize) -> [u8; WIDTH] {
-    let mut words = wording::SIGN;
-    words[1] = (kind % 256) as u8;
-    words
+// What was expected at a place of a text, where it is refused.
+#[derive(Clone, Copy)]
+pub struct Expected<'a> {
+    pub text: &'a [u8],
+    pub place: usize,
+    pub why: Why,
 }
 
-// A token, by its kind; where others may stand there as well, they are named too.
-fn token_words(kind: usize) -> [u8; WIDTH] {
-    match kind {
-        kinds::ENDED => wording::ENDED,
-        kinds::NUMBER => wording::NUMBER,
-        kinds::BECOMES => wording::BECOMES,
-        kinds::ARROW => wording::ARROW,
-        kinds::CLOSE_PAREN => wording::CLOSE_PAREN,
-        kinds::CLOSE_BRACKET => wording::CLOSE_BRACKET,
-        kinds::CLOSE_BRACE => wording::CLOSE_BRACE,
-        kinds::ANNEXED => wording::ANNEXED,
-        kinds::END => wording::END,
-        kinds::EVENT => wording::EVENT,
-        kinds::IMPLEMENTATION => wording::IMPLEMENTATION,
-        kinds::OUT => wording::OUT,
-        kinds::PORT => wording::PORT,
-        kinds::THREAD => wording::THREAD,
-        kinds::NAME => wording::NAME,
-        _ => sign_words(kind),
-    }
-}
-
-// What the reading of the grammar wants.
-fn wanted_words(why: usize) -> [u8; WIDTH] {
-    match why {
-        ITS_OWN => wording::ITS_OWN,
-        A_VALUE => wording::A_VALUE,
-        TOO_DEEP => wording::TOO_DEEP,
-        A_DECLARATION => wording::A_DECLARATION,
-        NOT_WHOLE => wording::NOT_WHOLE,
-        UNIT_UNKNOWN => wording::UNIT_UNKNOWN,
-        UNIT_MISSING => wording::UNIT_MISSING,
-        A_PRIORITY => wording::A_PRIORITY,
-        SECOND_TIME => wording::SECOND_TIME,
-        FROM_OUTSIDE => wording::FROM_OUTSIDE,
-        TOO_LONG => wording::TOO_LONG,
-        _ => token_words(why),
-    }
-}
-
-// What the judgement of a text that was read wants.
-fn judged_words(why: usize) -> [u8; WIDTH] {
-    match why {
-        NO_PROCESS => wording::NO_PROCESS,
-        DECLARED_BEFORE => wording::DECLARED_BEFORE,
-        NO_SUCH_TYPE => wording::NO_SUCH_TYPE,
-        NO_PERIOD => wording::NO_PERIOD,
-        NOT_PERIODIC => wording::NOT_PERIODIC,
-        HAS_OFFSET => wording::HAS_OFFSET,
-        NO_SUCH_THREAD => wording::NO_SUCH_THREAD,
-        CONNECTED_BEFORE => wording::CONNECTED_BEFORE,
-        NO_SUCH_PORT => wording::NO_SUCH_PORT,
-        WRONG_DIRECTION => wording::WRONG_DIRECTION,
-        NOT_DELAYED => wording::NOT_DELAYED,
-        _ => wanted_words(why),
-    }
-}
-
-// What was expected at a place of a text. What was declared before is there the process, where it is no name.
-fn expected_words(text: &[u8], place: usize, why: usize) -> [u8; WIDTH] {
-    if why == DECLARED_BEFORE {
-        if token_at(text, place).kind == kinds::PROCESS {
-            return wording::SECOND_PROCESS;
+impl Display for Expected<'_> {
+    fn fmt<W: fmt::Write>(&self, f: &mut fmt::Formatter<W>) -> fmt::Result {
+        match self.why {
+            Why::Expected(kind) => write!(f, "{}", Token(kind)),
+            Why::ItsOwn => f.write_str("the name that this declaration begins with"),
+            Why::AValue => f.write_str("a value"),
+            Why::TooDeep => f.write_str("at most 8 brackets within each other"),
+            Why::ADeclaration => f.write_str("a package or a declaration"),
+            Why::NotWhole => f.write_str("a whole number of ms"),
+            Why::UnitUnknown => f.write_str("the unit ms or sec"),
+            Why::UnitMissing => f.write_str("a unit behind it, ms or sec"),
+            Why::APriority => f.write_str("a Priority, a whole number of 0 to 255"),
+            Why::SecondTime => f.write_str("this property once"),
+            Why::FromOutside => f.write_str("this property with a thread or its type"),
+            Why::TooLong => f.write_str("a text of at most 262144 bytes"),
+            Why::NoProcess => f.write_str("a process implementation"),
+            Why::DeclaredBefore => f.write_str(declared_words(self.text, self.place)),
+            Why::NoSuchType => f.write_str("a thread type that stands in the text"),
+            Why::NoPeriod => f.write_str("a thread with a Period"),
+            Why::NotPeriodic => f.write_str("a thread with Dispatch_Protocol => Periodic"),
+            Why::HasOffset => f.write_str("a thread without a Dispatch_Offset"),
+            Why::NoSuchThread => f.write_str("a thread of the process"),
+            Why::ConnectedBefore => f.write_str("one connection from a thread to a port"),
+            Why::NoSuchPort => f.write_str("a port of the thread's type"),
+            Why::WrongDirection => f.write_str("a port of the connection's direction"),
+            Why::NotDelayed => f.write_str("Timing => Delayed on the connection or this port"),
         }
     }
-    judged_words(why)
 }
 
-// What was expected at a place of a text, behind what stands there already.
-pub fn put_expected(out: &mut [u8], at: usize, text: &[u8], place: usize, why: usize) -> usize
-    ensures { result ≤ length out.old }
-{
-    let words = expected_words(text, place, why);
-    put_padded(out, at, &words)
+// A token that a rule misses.
+#[derive(Clone, Copy)]
+struct Token(Kind);
+
+impl Display for Token {
+    // Where others may stand there as well, they are named too.
+    fn fmt<W: fmt::Write>(&self, f: &mut fmt::Formatter<W>) -> fmt::Result {
+        match self.0 {
+            Kind::Ended => f.write_str("the end of the text"),
+            Kind::Number => f.write_str("a number"),
+            Kind::Name => f.write_str("a name"),
+            Kind::Becomes => f.write_str("'=>'"),
+            Kind::Arrow => f.write_str("'->' or '->>'"),
+            Kind::Sign(b')') => f.write_str("',' or ')'"),
+            Kind::Sign(b']') => f.write_str("a name or ']'"),
+            Kind::Sign(b'}') => f.write_str("a property or '}'"),
+            Kind::Sign(b'A') => f.write_str("an annex's text, '{** .. **}'"),
+            Kind::Sign(sign) => write!(f, "'{}'", char::from(sign)),
+            Kind::End => f.write_str("a section, a declaration or 'end'"),
+            Kind::Event => f.write_str("a kind of port, as 'data port' or 'event port'"),
+            Kind::Implementation => f.write_str("'implementation'"),
+            Kind::Out => f.write_str("'in', 'out' or another feature"),
+            Kind::Port => f.write_str("'port'"),
+            Kind::Thread => f.write_str("'thread', 'data', 'subprogram' or 'abstract'"),
+            // no rule misses any other: the kinds that begin a rule were seen before it
+            _ => f.write_str("another token"),
+        }
+    }
+}
+
+// What was declared before is the process, where it is no name.
+fn declared_words(text: &[u8], place: usize) -> &'static str {
+    if token_at(text, place).kind == Kind::Process {
+        return "one process implementation";
+    }
+    "a name that was not declared before"
 }

@@ -1,22 +1,26 @@
 // What stands at a place of a text, for people: its line and column, and the token that begins there.
-ghost use Rattle.std.specs.Prelude.{◌≡◌, ◌≤◌, ◌<◌};
+ghost use Rattle.std.specs.Prelude.{◌≡◌, ◌<◌};
 ghost use Rattle.common.specs.Words.{length, take};
 ghost use Rattle.report.specs.Places.{past, point_of};
 
-use crate::put::put_padded;
-use crate::wording;
-use crate::wording::WIDTH;
-use findings::TOO_LONG;
-use listing::least;
 use plain::make_plain;
+use std::fmt;
+use std::fmt::{Display, Write};
+use steps::Why;
 use tokens::{Spot, spot_at};
-use words::byte_at;
 
 // Both counted from 1; a column is a byte.
-#[derive(Drop)]
+#[derive(Clone, Copy)]
 pub struct Point {
     pub line: usize,
     pub column: usize,
+}
+
+impl Display for Point {
+    fn fmt<W: fmt::Write>(&self, f: &mut fmt::Formatter<W>) -> fmt::Result {
+        let Point { line, column } = *self;
+        write!(f, "line {line}, column {column}")
+    }
 }
 
 // So many bytes of a token are shown.
@@ -30,15 +34,16 @@ fn past(point: Point, byte: u8) -> Point
     requires { (point.line < 0x8000_0000_0000_0000) × (point.column < 0x8000_0000_0000_0000) }
     ensures { result ≡ past point byte }
 {
+    let Point { line, column } = point;
     if byte == b'\n' {
         return Point {
-            line: point.line + 1,
+            line: line + 1,
             column: 1,
         };
     }
     Point {
-        line: point.line,
-        column: point.column + 1,
+        line,
+        column: column + 1,
     }
 }
 
@@ -46,113 +51,84 @@ fn past(point: Point, byte: u8) -> Point
 pub fn point_of(text: &[u8], place: usize) -> Point
     ensures { result ≡ point_of (take place text.now) }
 {
+    let before = &text[..place.min(text.len())];
     let mut point = Point { line: 1, column: 1 };
-    let n = least(place, text.len());
-    for i in 0..n {
-        point = past(point, text[i]);
+    for byte in before {
+        point = past(point, *byte);
     }
     point
 }
 
-// The token that begins at a place, counted from there, as far as the lent window shows it.
-fn token_in(text: &[u8], place: usize, window: &mut [u8]) -> Spot {
-    let start = least(place, text.len());
-    let n = least(window.len(), text.len() - start);
-    make_plain(&text[start..start + n], &mut window[..n]);
+// The token that begins at a place, counted from there, as far as a window shows it.
+pub fn token_at(text: &[u8], place: usize) -> Spot {
+    let mut window = [0u8; WINDOW];
+    let rest = &text[place.min(text.len())..];
+    let n = WINDOW.min(rest.len());
+    make_plain(&rest[..n], &mut window[..n]);
     spot_at(&window[..n], 0)
 }
 
-pub fn token_at(text: &[u8], place: usize) -> Spot {
-    let mut window = [0u8; WINDOW];
-    token_in(text, place, &mut window)
-}
-
-// How many bytes a string has that begins at a place, or the rest of its line where nothing ends it.
-fn string_width(text: &[u8], place: usize) -> usize
-    requires { place < length text.now }
-{
-    let mut end = place + 1;
-    while end < text.len() {
-        if text[end] == b'\n' {
-            return end - place;
-        }
-        end += 1;
-        if text[end - 1] == b'"' {
-            return end - place;
-        }
+// How many bytes a string has, with its quotes, or the rest of its line where nothing ends it: behind the first quote stands `rest`.
+fn string_width(rest: &[u8]) -> usize {
+    let inside = rest
+        .iter()
+        .take_while(|b| **b != b'"' && **b != b'\n')
+        .count();
+    if rest.get(inside) == Some(&b'"') {
+        return inside.saturating_add(2);
     }
-    end - place
-}
-
-fn opens_annex(text: &[u8], place: usize) -> bool
-    requires { place < length text.now }
-{
-    if text[place] != b'{' {
-        return false;
-    }
-    if byte_at(text, place + 1) != b'*' {
-        return false;
-    }
-    byte_at(text, place + 2) == b'*'
+    inside.saturating_add(1)
 }
 
 // How many bytes are shown of what begins at a place, where nothing is left out: a string is shown whole, an annex by its sign.
 fn width_at(text: &[u8], place: usize) -> usize
     requires { place < length text.now }
 {
-    if text[place] == b'"' {
-        return string_width(text, place);
-    }
-    if opens_annex(text, place) {
+    let rest = &text[place..];
+    if rest.starts_with(b"{**") {
         return 3;
+    }
+    if rest[0] == b'"' {
+        return string_width(&rest[1..]);
     }
     token_at(text, place).end
 }
 
 // A byte that can be printed; a question mark stands for any other.
-fn printable(byte: u8) -> u8 {
-    if byte < b' ' {
-        return b'?';
+fn printable(byte: u8) -> char {
+    match byte {
+        b' '..=b'~' => char::from(byte),
+        _ => '?',
     }
-    if b'~' < byte {
-        return b'?';
-    }
-    byte
 }
 
-// So many bytes from a place on, in quotes; where they are many, the first of them.
-fn quoted(text: &[u8], place: usize, width: usize) -> [u8; WIDTH]
-    requires { place < length text.now }
-{
-    let mut words = wording::QUOTED;
-    let n = least(least(width, SHOWN), text.len() - place);
-    for k in 0..n {
-        words[k + 2] = printable(text[place + k]);
-    }
-    if SHOWN < width {
-        words[n + 2] = b'.';
-        words[n + 3] = b'.';
-        words[n + 4] = b'\'';
-        return words;
-    }
-    words[n + 2] = b'\'';
-    words
+// What stands at a place of a text, where it is refused: `'perod'`.
+#[derive(Clone, Copy)]
+pub struct Found<'a> {
+    pub text: &'a [u8],
+    pub place: usize,
+    pub why: Why,
 }
 
-// What stands at a place of a text, as words with a space before them: ` 'perod'`.
-fn found_words(text: &[u8], place: usize, why: usize) -> [u8; WIDTH] {
-    if text.len() <= place {
-        return wording::NOTHING_MORE;
+impl Display for Found<'_> {
+    fn fmt<W: fmt::Write>(&self, f: &mut fmt::Formatter<W>) -> fmt::Result {
+        let text = self.text;
+        let place = self.place;
+        if text.len() <= place {
+            return f.write_str("the end of the text");
+        }
+        if self.why == Why::TooLong {
+            return f.write_str("more text");
+        }
+        quote(f, &text[place..], width_at(text, place))
     }
-    if why == TOO_LONG {
-        return wording::MORE_TEXT;
-    }
-    quoted(text, place, width_at(text, place))
 }
 
-pub fn put_found(out: &mut [u8], at: usize, text: &[u8], place: usize, why: usize) -> usize
-    ensures { result ≤ length out.old }
-{
-    let words = found_words(text, place, why);
-    put_padded(out, at, &words)
+// So many of the first bytes, in quotes; where they are many, not all of them.
+fn quote<W: fmt::Write>(f: &mut fmt::Formatter<W>, bytes: &[u8], width: usize) -> fmt::Result {
+    f.write_str("'")?;
+    for byte in &bytes[..width.min(SHOWN).min(bytes.len())] {
+        f.write_char(printable(*byte))?;
+    }
+    f.write_str(if SHOWN < width { "..'" } else { "'" })
 }

@@ -4,43 +4,25 @@
 mod expected; // expected.rt: what was expected, in words
 mod found; // found.rt: what stands at a place
 mod planned; // planned.rt: planning's refusals in words
-mod put; // put.rt: bytes behind each other
-mod wording; // wording.rt: the words for what was found and what was expected
+mod unread; // unread.rt: the reader's refusals in words
 
 ghost use Rattle.std.specs.Prelude.{◌≤◌};
 ghost use Rattle.common.specs.Words.{length};
 
-use expected::put_expected;
-use findings::{Refusal, rule_number};
-use found::{Point, point_of, put_found};
 pub use planned::say_refused;
-use put::{put, put_filled, put_rule};
+use std::fmt::Display;
+use std::io::Write;
+pub use unread::say_unread;
 
 // Enough for any line in words.
 pub const WORDS_ROOM: usize = 256;
 
-// `line 7, column 12: found`
-fn put_point(out: &mut [u8], point: Point) -> usize
+// The words of a value at the start of lent memory, and how many bytes they have. What does not fit is left out.
+fn put(out: &mut [u8], words: impl Display + Drop) -> usize
     ensures { result ≤ length out.old }
 {
-    put_filled(
-        out,
-        0,
-        b"line #, column #: found",
-        [point.line, point.column, 0],
-    )
-}
-
-// Why the reader refuses a text, as a compiler would say it: the line, and how many bytes it has.
-pub fn say_unread(out: &mut [u8], text: &[u8], refusal: Refusal) -> usize
-    ensures { result ≤ length out.old }
-{
-    let place = refusal.place;
-    let why = refusal.why;
-    let pointed = put_point(out, point_of(text, place));
-    let found = put_found(out, pointed, text, place, why);
-    let behind = put(out, found, b", expected ");
-    let expected = put_expected(out, behind, text, place, why);
-    let rule = refusal.rule;
-    put_rule(out, expected, rule_number(rule))
+    let room = out.len();
+    let mut rest = out;
+    let _ = write!(rest, "{words}");
+    room.saturating_sub(rest.len())
 }

@@ -2,82 +2,91 @@
 ghost use Rattle.std.specs.Prelude.{◌≤◌};
 ghost use Rattle.common.specs.Words.{length};
 
-use crate::put::{NUMBERS, put_filled, put_rule};
+use crate::put;
 use findings::Table;
 use plan::Plan;
-use plan::refusal::{Refusal, rule_number};
+use plan::refusal::{Refusal, Rule};
+use std::fmt;
+use std::fmt::Display;
 
-// The words, each of so many bytes, with spaces behind; a `#` stands for a number.
-const WIDTH: usize = 121;
-
-const COUNTS: [u8; WIDTH] =
-    *b"no plan: found # threads and # queues, expected 1 to 16 threads and 1 to 8 queues                                        ";
-
-const NO_THREAD: [u8; WIDTH] =
-    *b"no plan: thread #                                                                                                        ";
-
-const TIMES: [u8; WIDTH] =
-    *b"no plan: thread #: found Period # and Deadline #, expected a Period of 1 to 60000 ms and a Deadline of 1 ms to the Period";
-
-const ENDS: [u8; WIDTH] =
-    *b"no plan: queue #: expected a receiver and senders that are threads of the table                                          ";
-
-const PERIODS: [u8; WIDTH] =
-    *b"no plan: queue #: expected Periods with a common multiple of at most 10000000 ms                                         ";
-
-const MESSAGES: [u8; WIDTH] =
-    *b"no plan: queue #: expected at most 4096 messages until the Periods meet again                                            ";
-
-const SLOTS: [u8; WIDTH] =
-    *b"no plan: expected at most 1024 slots for all queues together                                                             ";
-
-// What is wrong with a thread's times; of a row that no table has, the row alone.
-fn times_words(row: usize) -> [u8; WIDTH] {
-    if Plan::TASKS <= row {
-        return NO_THREAD;
-    }
-    TIMES
+// Why a table is refused.
+#[derive(Clone, Copy)]
+struct Unplanned<'a> {
+    table: &'a Table,
+    refusal: Refusal,
 }
 
-// What is wrong with a table.
-fn wrong_words(row: usize, number: u8) -> [u8; WIDTH] {
-    match number {
-        1 => COUNTS,
-        2 => times_words(row),
-        3 => ENDS,
-        4 => PERIODS,
-        6 => SLOTS,
-        _ => MESSAGES,
+// What a thread's times are; of a row that no table has, the row alone.
+#[derive(Clone, Copy)]
+struct Times<'a> {
+    table: &'a Table,
+    row: usize,
+}
+
+impl Display for Times<'_> {
+    fn fmt<W: fmt::Write>(&self, f: &mut fmt::Formatter<W>) -> fmt::Result {
+        let row = self.row;
+        if Plan::TASKS <= row {
+            return write!(f, "thread {row}");
+        }
+        let period = self.table.period[row];
+        let deadline = self.table.deadline[row];
+        write!(
+            f,
+            "thread {row}: found Period {period} and Deadline {deadline}, "
+        )?;
+        f.write_str("expected a Period of 1 to 60000 ms and a Deadline of 1 ms to the Period")
     }
 }
 
-// A thread, its Period and its Deadline.
-fn times_of(table: Table, row: usize) -> [usize; NUMBERS] {
-    if Plan::TASKS <= row {
-        return [row, 0, 0];
+impl Unplanned<'_> {
+    // What is wrong with the table.
+    fn wrong<W: fmt::Write>(&self, f: &mut fmt::Formatter<W>) -> fmt::Result {
+        let table = self.table;
+        let row = self.refusal.row;
+        match self.refusal.rule {
+            Rule::TaskOrQueueCount => {
+                let tasks = table.tasks;
+                let queues = table.queues;
+                write!(f, "found {tasks} threads and {queues} queues, ")?;
+                f.write_str("expected 1 to 16 threads and 1 to 8 queues")
+            }
+            Rule::PeriodOrDeadline => write!(f, "{}", Times { table, row }),
+            Rule::ReceiverOrSender => {
+                write!(
+                    f,
+                    "queue {row}: expected a receiver and senders that are threads of the table"
+                )
+            }
+            Rule::HyperperiodTooLong => {
+                write!(
+                    f,
+                    "queue {row}: expected Periods with a common multiple of at most 10000000 ms"
+                )
+            }
+            Rule::TooManySlots => f.write_str(
+                "expected at most 1024 slots for all queues together",
+            ),
+            _ => write!(
+                f,
+                "queue {row}: expected at most 4096 messages until the Periods meet again"
+            ),
+        }
     }
-    let periods = table.period;
-    let deadlines = table.deadline;
-    [row, periods[row] as usize, deadlines[row] as usize]
 }
 
-// The numbers in what is wrong with a table.
-fn numbers_of(table: Table, row: usize, number: u8) -> [usize; NUMBERS] {
-    match number {
-        1 => [table.tasks, table.queues, 0],
-        2 => times_of(table, row),
-        _ => [row, 0, 0],
+impl Display for Unplanned<'_> {
+    fn fmt<W: fmt::Write>(&self, f: &mut fmt::Formatter<W>) -> fmt::Result {
+        f.write_str("no plan: ")?;
+        self.wrong(f)?;
+        let number = u8::from(self.refusal.rule);
+        write!(f, " ({number})\n")
     }
 }
 
 // Why planning refuses a table: the line, and how many bytes it has.
-pub fn say_refused(out: &mut [u8], table: Table, refusal: Refusal) -> usize
+pub fn say_refused(out: &mut [u8], table: &Table, refusal: Refusal) -> usize
     ensures { result ≤ length out.old }
 {
-    let rule = refusal.rule;
-    let number = rule_number(rule);
-    let row = refusal.row;
-    let words = wrong_words(row, number);
-    let wrong = put_filled(out, 0, &words, numbers_of(table, row, number));
-    put_rule(out, wrong, number)
+    put(out, Unplanned { table, refusal })
 }

@@ -1,23 +1,22 @@
 -- Laws of rules that say more: what is done in a row, by a choice, again and again, with properties of its own.
-use Rattle.std.specs.Prelude.{◌+◌, ◌<◌, ◌∷◌, ◌++◌, ◌≡◌}
+use Rattle.std.specs.Prelude.{◌+◌, ◌<◌, ◌∷◌, ◌++◌, ◌≡◌, Ok, Err, Option, Some}
 use Rattle.common.specs.Words.{ℕ, zero, suc, arith, Bool, true, false, true≢false, cond, List, [], refl, sym, ◌∙◌, length}
 use Rattle.tokens.specs.Tokens.{Token}
 use Rattle.tokens.specs.Laws.{cases}
-use Rattle.steps.specs.declared.Fault.{Fault}
+use Rattle.steps.specs.declared.faults.Fault.{Fault}
 use Rattle.steps.specs.Faults.{worse, worst}
 use Rattle.steps.specs.Steps.{Step, On, Stop, ◌⟫◌}
 use Rattle.steps.specs.Lifted.{holds, size}
 use Rattle.steps.specs.Laws.{going, Moved, went, stopped, goes_none, goes_shorter, moved_then, moved_less}
 use Rattle.rows.specs.Rows.{Row, Store, store, with_row, with_rows}
 use Rattle.rows.specs.Said.{Said, said, Rule, quiet, joined, onward, ◌⨟◌, optionally, repeat_by, repeat, put, no_props, merged, apart, adding}
-use Rattle.steps.specs.declared.Went.{Went}
 use Rattle.rows.specs.declared.Reading.{Reading}
 use Rattle.rows.specs.States.{State, state, state_of, effect, does, reading}
 
-pub worst_append : (f : Fault) (a b : List Fault) → worst f (a ++ b) ≡ worst (worst f a) b
+pub worst_append : (f : Option Fault) (a b : List Fault) → worst f (a ++ b) ≡ worst (worst f a) b
 unfolding worst
 worst_append f [] b = refl
-worst_append f (g ∷ a) b = worst_append (worse f g) a b
+worst_append f (g ∷ a) b = worst_append (worse f (Some g)) a b
 
 pub rows_append : (s : Store) (a b : List Row) → with_rows s (a ++ b) ≡ with_rows (with_rows s a) b
 unfolding with_rows
@@ -35,8 +34,8 @@ does_after s (On us) qs is ns g = effect_joined s (said (On us) qs is ns) (g qs 
 does_after s (Stop x) qs is ns g = refl
 
 -- by cases on where the text goes on
-pub by_went : (P : State → Type 0) → ((ts : List Token) (qs : List ℕ) (x : Fault) (t : Store) → P (state (On ts) qs x t)) →
-    ((f : Fault) (qs : List ℕ) (x : Fault) (t : Store) → P (state (Stop f) qs x t)) → (s : State) → P s
+pub by_went : (P : State → Type 0) → ((ts : List Token) (qs : List ℕ) (x : Option Fault) (t : Store) → P (state (On ts) qs x t)) →
+    ((f : Fault) (qs : List ℕ) (x : Option Fault) (t : Store) → P (state (Stop f) qs x t)) → (s : State) → P s
 by_went P on off s = go s.went
   where
     go : (w : Step) → P (state w s.props s.fault s.store)
@@ -68,7 +67,7 @@ does_then_going s f h g =
     does (does s f) h ≡ does s (λ ps ts. f ps ts ⨟ g ts))
     (λ ts qs x t e. let a = f qs ts in from_there ts qs x t a.went a.props a.rows a.notes (e ts refl)) (λ f qs x t e. refl) s
   where
-    from_there : (ts : List Token) (qs : List ℕ) (x : Fault) (t : Store) (w : Step) (ps : List ℕ) (is : List Row) (ns : List Fault) →
+    from_there : (ts : List Token) (qs : List ℕ) (x : Option Fault) (t : Store) (w : Step) (ps : List ℕ) (is : List Row) (ns : List Fault) →
         (going w ≡ true → h ≡ g ts) →
         does (effect (state (On ts) qs x t) (said w ps is ns)) h ≡ effect (state (On ts) qs x t) (said w ps is ns ⨟ g ts)
     from_there ts qs x t (On us) ps is ns e = rw (e refl) (does_after (state (On ts) qs x t) (On us) ps is ns (g ts))
@@ -256,11 +255,11 @@ does_put s row =
 
 -- the same of a reading: where a rule has stopped nothing more is done, and a row is put where none has
 pub stopped_stays : (p : List ℕ) (r : Reading) (m : List ℕ) (rule : Rule) (f : Fault) →
-    r.went ≡ Went.Stopped f → state_of p r m ≡ does (state_of p r m) rule
+    r.went ≡ Err f → state_of p r m ≡ does (state_of p r m) rule
 unfolding does
 stopped_stays p r m rule f e = rw e
 
-pub put_goes : (p : List ℕ) (r : Reading) (m l : List ℕ) (n at : ℕ) (row : List ℕ → Row) → r.went ≡ Went.To at →
+pub put_goes : (p : List ℕ) (r : Reading) (m l : List ℕ) (n at : ℕ) (row : List ℕ → Row) → r.went ≡ Ok at →
     store l n ≡ with_row (store m r.count) (row r.props) →
     state_of p (reading r.went r.props n r.fault) l ≡ does (state_of p r m) (put row)
 unfolding does worst with_rows

@@ -3,7 +3,7 @@ use Rattle.std.specs.Prelude.{◌+◌, ◌-◌, ◌*◌, ◌≤◌, ◌≡◌}
 use Rattle.common.specs.Words.{ℕ, zero, suc, arith, Bool, List, [], length, length-append}
 use Rattle.tokens.specs.Tokens.{Token}
 use Rattle.tokens.specs.Laws.{cases}
-use Rattle.steps.specs.declared.Fault.{Fault}
+use Rattle.steps.specs.declared.faults.Fault.{Fault}
 use Rattle.steps.specs.Steps.{Step, On, Stop}
 use Rattle.steps.specs.Laws.{weight, Moved, Moves, went, stopped}
 use Rattle.rows.specs.Rows.{Row}

@@ -3,7 +3,7 @@ use Rattle.std.specs.Prelude.{◌∷◌, ◌++◌}
 use Rattle.common.specs.Words.{ℕ, zero, suc, Bool, cond, List, [], length, eqb, get_or}
 use Rattle.common.specs.Table.{table}
 use Rattle.tokens.specs.Tokens.{Token}
-use Rattle.steps.specs.declared.Fault.{Fault}
+use Rattle.steps.specs.declared.faults.Fault.{Fault}
 use Rattle.steps.specs.Steps.{Step, On, Stop}
 use Rattle.rows.specs.Rows.{Row}
 

@@ -1,8 +1,8 @@
 -- What the code carries through the rules, and what a rule does to it.
+use Rattle.std.specs.Prelude.{Result, Ok, Option}
 use Rattle.common.specs.Words.{ℕ, cond, List, eqb}
-use Rattle.steps.specs.declared.Fault.{Fault}
+use Rattle.steps.specs.declared.faults.Fault.{Fault}
 use Rattle.steps.specs.Faults.{no_fault, worse, worst}
-use Rattle.steps.specs.declared.Went.{Went}
 use Rattle.steps.specs.Steps.{Step, On, Stop}
 use Rattle.steps.specs.Lifted.{lift}
 use Rattle.rows.specs.declared.Reading.{Reading}
@@ -13,10 +13,10 @@ use Rattle.rows.specs.Said.{Said, Rule, no_props}
 pub record State : Type 0 where
   pub went : Step
   pub props : List ℕ
-  pub fault : Fault
+  pub fault : Option Fault
   pub store : Store
 
-abbrev pub state : Step → List ℕ → Fault → Store → State
+abbrev pub state : Step → List ℕ → Option Fault → Store → State
 state w ps f s = record { went = w; props = ps; fault = f; store = s }
 
 -- a reading of the plain text p, with its memory
@@ -37,19 +37,19 @@ does s rule = does_from s.went s rule
 
 -- ## The code's own steps
 
-abbrev pub reading : Went → List ℕ → ℕ → Fault → Reading
+abbrev pub reading : Result ℕ Fault → List ℕ → ℕ → Option Fault → Reading
 reading w ps n f = record { went = w; props = ps; count = n; fault = f }
 
 abbrev pub begun : Reading
-begun = reading (Went.To 0) no_props 0 no_fault
+begun = reading (Ok 0) no_props 0 no_fault
 
-abbrev pub on_with : Reading → Went → Reading
+abbrev pub on_with : Reading → Result ℕ Fault → Reading
 on_with r w = reading w r.props r.count r.fault
 
 abbrev pub props_with : Reading → List ℕ → Reading
 props_with r ps = reading r.went ps r.count r.fault
 
-abbrev pub fault_with : Reading → Fault → Reading
+abbrev pub fault_with : Reading → Option Fault → Reading
 fault_with r f = reading r.went r.props r.count (worse r.fault f)
 
 abbrev pub first_of : ℕ → ℕ → ℕ

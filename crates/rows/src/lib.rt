@@ -9,7 +9,8 @@ ghost use Rattle.rows.specs.Rows.{Row, store, with_row};
 ghost use Rattle.rows.specs.Said.{quiet, put, merged};
 ghost use Rattle.rows.specs.States.{state_of, does, begun, on_with, props_with, fault_with, first_of};
 
-use steps::{Fault, NO_FAULT, Went, next, second, symbol, worse};
+use steps::{Fault, Went, next, second, symbol, worse};
+use words::kinds::Kind;
 
 // How many numbers a row has in memory.
 pub const ROW: usize = 10;
@@ -23,7 +24,7 @@ pub struct Reading {
     pub went: Went,
     pub props: [usize; PROPERTIES],
     pub count: usize,
-    pub fault: Fault,
+    pub fault: Option<Fault>,
 }
 
 pub const NO_PROPERTIES: [usize; PROPERTIES] = [0; PROPERTIES];
@@ -33,10 +34,10 @@ pub fn begun() -> Reading
     ensures { result ≡ begun }
 {
     Reading {
-        went: Went::To(0),
+        went: Ok(0),
         props: NO_PROPERTIES,
         count: 0,
-        fault: NO_FAULT,
+        fault: None,
     }
 }
 
@@ -69,7 +70,7 @@ pub fn with_props(reading: Reading, props: [usize; PROPERTIES]) -> Reading
 }
 
 // One fault more that was noted.
-pub fn noted(reading: Reading, fault: Fault) -> Reading
+pub fn noted(reading: Reading, fault: Option<Fault>) -> Reading
     ensures { result ≡ fault_with reading fault }
 {
     let went = reading.went;
@@ -84,14 +85,14 @@ pub fn noted(reading: Reading, fault: Fault) -> Reading
 }
 
 // The kinds of the next token and of the one behind it; the text's end where a rule has stopped.
-pub fn next_of(text: &[u8], reading: Reading) -> usize
+pub fn next_of(text: &[u8], reading: Reading) -> Kind
     ensures { result ≡ first_kind (lift text.now reading.went) }
 {
     let went = reading.went;
     next(text, went)
 }
 
-pub fn second_of(text: &[u8], reading: Reading) -> usize
+pub fn second_of(text: &[u8], reading: Reading) -> Kind
     ensures { result ≡ second_kind (lift text.now reading.went) }
 {
     let went = reading.went;
@@ -99,7 +100,7 @@ pub fn second_of(text: &[u8], reading: Reading) -> usize
 }
 
 // The next token is of this kind.
-pub fn symbol_on(text: &[u8], reading: Reading, kind: usize) -> Reading
+pub fn symbol_on(text: &[u8], reading: Reading, kind: Kind) -> Reading
     ensures { (m : List ℕ) → state_of text.now result m ≡ does (state_of text.now reading m) (quiet (the kind)) }
 {
     let went = reading.went;
@@ -143,7 +144,7 @@ pub fn put(rows: &mut [usize], reading: Reading, numbers: [usize; ROW]) -> Readi
         state_of p result rows.new ≡ does (state_of p reading rows.old) (put row) }
 {
     let went = reading.went;
-    let Went::To(_) = went else {
+    let Ok(_) = went else {
         return reading;
     };
     let props = reading.props;

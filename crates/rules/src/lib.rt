@@ -2,123 +2,70 @@
 // Rule 9, which sends and the lookup of a number ask, is here too.
 #![tactic(auto)]
 
-ghost use Rattle.std.specs.Prelude.{◌≡◌, ◌&&◌, ◌+◌, ◌*◌, ◌≤◌};
-ghost use Rattle.common.specs.Words.{false, ltb, get_or};
+ghost use Rattle.std.specs.Prelude.{◌≡◌, ◌≤◌};
+ghost use Rattle.common.specs.Words.{false, get_or};
 ghost use Rattle.plan.specs.Limits.{task_limit, queue_limit};
-ghost use Rattle.plan.specs.Rules.{one_to, counts_good, task_good, bad_task, may_send, only_tasks_send, first_sender, queue_good, bad_queue};
+ghost use Rattle.plan.specs.Rules.{counts_good, task_good, bad_task, only_tasks_send, queue_good, bad_queue, row_below, connected};
 
 use plan::Plan;
-
-// n is 1..most.
-pub fn one_to(most: u64, n: u64) -> bool
-    ensures { result ≡ one_to most n }
-{
-    1 <= n && n <= most
-}
 
 // Rule 1.
 pub fn counts_good(tasks: usize, queues: usize) -> bool
     ensures { result ≡ counts_good tasks queues }
 {
-    one_to(Plan::TASKS as u64, tasks as u64) && one_to(Plan::QUEUES as u64, queues as u64)
+    (1..=Plan::TASKS).contains(&tasks) && (1..=Plan::QUEUES).contains(&queues)
 }
 
 fn task_good(period: u64, deadline: u64) -> bool
     ensures { result ≡ task_good period deadline }
 {
-    one_to(Plan::LONGEST_PERIOD, period) && one_to(period, deadline)
+    (1..=Plan::LONGEST_PERIOD).contains(&period) && (1..=period).contains(&deadline)
 }
 
-// Rule 2: the first task that breaks it, and the count where none does.
+// Rule 2: the first task that breaks it.
 pub fn first_bad_task(
-    period: [u64; Plan::TASKS],
-    deadline: [u64; Plan::TASKS],
+    period: &[u64; Plan::TASKS],
+    deadline: &[u64; Plan::TASKS],
     tasks: usize,
-) -> usize
+) -> Option<usize>
     requires { tasks ≤ task_limit }
-    ensures { result ≡ bad_task period deadline tasks }
+    ensures { result ≡ row_below tasks (bad_task period.now deadline.now tasks) }
 {
-    for i in 0..tasks {
-        if !task_good(period[i], deadline[i]) {
-            return i;
-        }
-    }
-    tasks
+    (0..tasks).find(|&i| !task_good(period[i], deadline[i]))
 }
 
 // A row that is no task may not send.
-fn may_send(sends: bool, i: usize, tasks: usize) -> bool
-    ensures { result ≡ may_send tasks sends i }
+fn only_tasks_send(row: &[bool; Plan::TASKS], tasks: usize) -> bool
+    ensures { result ≡ only_tasks_send tasks (λ i. get_or row.now i false) }
 {
-    !sends || i < tasks
+    row.iter()
+        .enumerate()
+        .all(|(i, &sends)| !sends || i < tasks)
 }
 
-fn only_tasks_send(row: [bool; Plan::TASKS], tasks: usize) -> bool
-    ensures { result ≡ only_tasks_send tasks (λ i. get_or row i false) }
+fn queue_good(tasks: usize, receiver: usize, row: &[bool; Plan::TASKS]) -> bool
+    ensures { result ≡ queue_good tasks receiver (λ i. get_or row.now i false) }
 {
-    for i in 0..Plan::TASKS {
-        if !may_send(row[i], i, tasks) {
-            return false;
-        }
-    }
-    true
+    receiver < tasks && only_tasks_send(row, tasks) && row.contains(&true)
 }
 
-// The first row that sends, and the number of rows where none does.
-fn first_sender(row: [bool; Plan::TASKS]) -> usize
-    ensures { result ≡ first_sender (λ i. get_or row i false) }
-{
-    for i in 0..Plan::TASKS {
-        if row[i] {
-            return i;
-        }
-    }
-    Plan::TASKS
-}
-
-fn queue_good(tasks: usize, receiver: usize, row: [bool; Plan::TASKS]) -> bool
-    ensures { result ≡ queue_good tasks receiver (λ i. get_or row i false) }
-{
-    if tasks <= receiver {
-        return false;
-    }
-    only_tasks_send(row, tasks) && first_sender(row) < Plan::TASKS
-}
-
-// Rule 3: the first queue that breaks it, and the count where none does.
+// Rule 3: the first queue that breaks it.
 pub fn first_bad_queue(
     square: [[bool; Plan::TASKS]; Plan::QUEUES],
-    receiver: [usize; Plan::QUEUES],
+    receiver: &[usize; Plan::QUEUES],
     tasks: usize,
     queues: usize,
-) -> usize
+) -> Option<usize>
     requires { queues ≤ queue_limit }
-    ensures { result ≡ bad_queue square receiver tasks queues }
+    ensures { result ≡ row_below queues (bad_queue square receiver.now tasks queues) }
 {
-    for q in 0..queues {
-        if !queue_good(tasks, receiver[q], square[q]) {
-            return q;
-        }
-    }
-    queues
+    (0..queues).find(|&q| !queue_good(tasks, receiver[q], &square[q]))
 }
 
-// Rule 9, from the plan's counts and connections: whether the task sends into the queue, and both are there.
-pub fn connected(
-    queues: usize,
-    tasks: usize,
-    sends: &[bool; Plan::CELLS],
-    queue: usize,
-    task: usize,
-) -> bool
-    requires { (queues ≤ queue_limit) × (tasks ≤ task_limit) }
-    ensures { result ≡ (ltb queue queues && (ltb task tasks && get_or sends.now (queue * task_limit + task) false)) }
+// Rule 9: whether the task sends into the queue, and both are there.
+pub fn connected(plan: &Plan, queue: usize, task: usize) -> bool
+    requires { (plan.now.queues ≤ queue_limit) × (plan.now.tasks ≤ task_limit) }
+    ensures { result ≡ connected plan.now queue task }
 {
-    if queues <= queue {
-        return false;
-    }
-    if tasks <= task {
-        return false;
-    }
-    sends[queue * Plan::TASKS + task]
+    queue < plan.queues && task < plan.tasks && plan.sends[queue * Plan::TASKS + task]
 }

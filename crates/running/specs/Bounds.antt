@@ -7,7 +7,7 @@ use Rattle.plan.specs.Limits.{task_limit, last_tick, payload_bytes, slot_bytes}
 use Rattle.plan.specs.Plan.{queue_at, size_at, place_at, slots_of}
 use Rattle.plan.specs.Sound.{Sound, usable, inside}
 use Rattle.plan.specs.declared.Plan.{Plan}
-use Rattle.counting.specs.Columns.{lent, up_to_columns}
+use Rattle.counting.specs.Lent.{lent}
 use Rattle.counting.specs.Bounds.{up_to_fits}
 use Rattle.slots.specs.Slots.{slot_at}
 use Rattle.judge.specs.Taken.{Ground}
@@ -27,7 +27,7 @@ module _ {p : Plan} {m : List ℕ} (g : Ground p m) (q : ℕ) (counted : q < p.q
   slot_inside_lem n = omega (arith, slot_of_plan n, g.room)
 
   pub count_small : (t : ℕ) → t ≤ last_tick → up_to (queue_at p q) t ≤ task_limit * last_tick
-  count_small t h = rw (← up_to_columns p q t) (up_to_fits (lent p q (usable g.sound q counted)) t h)
+  count_small t h = up_to_fits (lent p q (usable g.sound q counted)) t h
 
   -- a window's numbers up to the last tick
   pub window_small : (t : ℕ) → t ≤ last_tick →

@@ -1,6 +1,6 @@
--- What an answer allows. Where a send stored its message, its job can be recorded in a state: queue and task have an entry, and the job can
--- be counted on. Where a look names a number, that can be counted on too, and its queue is there to be stepped on.
-use Rattle.std.specs.Prelude.{◌*◌, ◌/◌, ◌<◌, ◌≤◌, ◌≡◌}
+-- What an accepted call allows. Where a send stored its message, its job can be recorded in a state: queue and task have an entry, and the
+-- job can be counted on. Where a look names a number, that can be counted on too, and its queue is there to be stepped on.
+use Rattle.std.specs.Prelude.{◌*◌, ◌/◌, ◌<◌, ◌≤◌, ◌≡◌, Ok, Err}
 use Rattle.common.specs.Words.{ℕ, div-le_self, arith, Bool, true, false, cond, List, refl, sym, get_or, ltb, eqb, ltb-false}
 use Rattle.model.specs.Model.{last, sender_of}
 use Rattle.calendar.specs.Calendar.{message, slot}
@@ -9,11 +9,10 @@ use Rattle.plan.specs.Plan.{queue_at}
 use Rattle.plan.specs.Sound.{usable}
 use Rattle.plan.specs.Verdicts.{verdict, by_refusal, by_clear}
 use Rattle.slots.specs.Slots.{number_in}
-use Rattle.judge.specs.Taken.{send_taken, sender_fits, ReceiveTaken, receive_taken}
-use Rattle.running.specs.Types.{Plan, Sent, Received, Verdict}
-use Rattle.running.specs.Calls.{send_answer, receive_lines, receiving_job, next_number, slot_for, found, accepted_receive, look}
+use Rattle.judge.specs.Taken.{SendTaken, sender_fits, ReceiveTaken, receive_taken}
+use Rattle.running.specs.Types.{Plan, Verdict, Received}
+use Rattle.running.specs.Calls.{receive_lines, receiving_job, next_number, slot_for, found, accepted_receive, look}
 use Rattle.running.specs.Bounds.{window_small}
-use Rattle.running.specs.Outcomes.{send_is_clear}
 
 -- ## Send
 
@@ -23,26 +22,17 @@ pub record Storing (period : List ℕ) (q i t : ℕ) : Type 0 where
   pub period_counts : 1 ≤ get_or period i 0
   pub job_fits : t / get_or period i 0 ≤ last_tick
 
-abbrev pub CanRecord : List ℕ → ℕ → ℕ → ℕ → Sent → Type 0
-CanRecord period q i t (Sent.Stored n at) = Storing period q i t
-CanRecord period q i t (Sent.Refused r) = Unit {0}
-
-pub send_records : (before unsent : ℕ) (p : Plan) (m : List ℕ) (q i t : ℕ) (payload : List ℕ) →
-    CanRecord p.period q i t (send_answer before unsent p m q i t payload)
-send_records before unsent p m q i t payload = go (send_answer before unsent p m q i t payload) refl
-  where
-    go : (a : Sent) → send_answer before unsent p m q i t payload ≡ a → CanRecord p.period q i t a
-    go (Sent.Refused r) e = tt
-    go (Sent.Stored n at) e =
-        let x = send_taken before unsent p m q i t payload refl (send_is_clear before unsent p m q i t payload n at e) in
-        let u = usable x.ground.sound q x.queue in
-        let f = sender_fits u x.sender in
-        record {
-          queue_fits = u.queue_fits;
-          task_fits = f.0;
-          period_counts = f.1.0;
-          job_fits = omega (arith, x.tick_within, div-le_self t (get_or p.period i 0));
-        }
+pub storing : {before unsent : ℕ} {p : Plan} {m : List ℕ} {q i t : ℕ} {payload : List ℕ} → SendTaken before unsent p m q i t payload →
+    Storing p.period q i t
+storing {p = p} {q = q} {i = i} {t = t} x =
+    let u = usable x.ground.sound q x.queue in
+    let f = sender_fits u x.sender in
+    record {
+      queue_fits = u.queue_fits;
+      task_fits = f.0;
+      period_counts = f.1.0;
+      job_fits = omega (arith, x.tick_within, div-le_self t (get_or p.period i 0));
+    }
 
 -- ## Receive
 
@@ -82,7 +72,7 @@ unfolding look
 look_steps before unread p m q t = go (verdict (receive_lines before p m q t)) refl
   where
     go : (v : Verdict) → verdict (receive_lines before p m q t) ≡ v → CanStep q (look before unread p m q t)
-    go (Verdict.Refused r) e = rw (by_refusal (receive_lines before p m q t) Received.Refused (accepted_receive unread p m q t) r e) tt
-    go Verdict.Clear e =
+    go (Err r) e = rw (by_refusal (receive_lines before p m q t) Received.Refused (accepted_receive unread p m q t) r e) tt
+    go (Ok x) e =
         rw (by_clear (receive_lines before p m q t) Received.Refused (accepted_receive unread p m q t) e)
         (accepted_steps before unread p m q t (receive_taken before p m q t (sym e) refl))

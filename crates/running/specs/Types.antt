@@ -3,12 +3,10 @@ pub use Rattle.calendar.specs.declared.Number.{Number}
 pub use Rattle.calendar.specs.declared.Slot.{Slot}
 pub use Rattle.calendar.specs.declared.Tick.{Tick}
 pub use Rattle.plan.specs.declared.Plan.{Plan}
+pub use Rattle.plan.specs.Refusals.{Verdict, clear}
 pub use Rattle.plan.specs.declared.refusal.Refusal.{Refusal}
-pub use Rattle.plan.specs.declared.refusal.Verdict.{Verdict}
 pub use Rattle.window.specs.declared.Remembered.{Remembered}
 pub use Rattle.window.specs.declared.WindowEnds.{WindowEnds}
+pub use Rattle.running.specs.declared.Looked.{Looked}
 pub use Rattle.running.specs.declared.Received.{Received}
-pub use Rattle.running.specs.declared.ReceivedAt.{ReceivedAt}
-pub use Rattle.running.specs.declared.Sent.{Sent}
-pub use Rattle.running.specs.declared.SentAt.{SentAt}
-pub use Rattle.running.specs.declared.Started.{Started}
+pub use Rattle.running.specs.declared.Stored.{Stored}

@@ -5,24 +5,19 @@
 
 pub mod start; // start.rt: start
 
-use calendar::{Number, Slot, Tick};
+use calendar::{Number, Slot};
 use plan::refusal::Refusal;
 pub use window::Remembered;
 
-#[derive(Drop)]
-pub enum Started {
-    Ready,
-    Refused(Refusal),
-}
-
-// The slot is counted within its queue.
+// What an accepted send answers. The slot is counted within its queue.
 #[derive(Clone, Copy)]
-pub enum Sent {
-    Stored(Number, Slot),
-    Refused(Refusal),
+pub struct Stored {
+    pub number: Number,
+    pub slot: Slot,
 }
 
-// A message's slot is counted from the start of memory; a gap names the row of the sender that sent nothing.
+// What a receive answers: document 01's four kinds, so no Result of three. A message's slot is counted from the start of memory; a gap
+// names the row of the sender that sent nothing.
 #[derive(Clone, Copy)]
 pub enum Received {
     Message(Number, Slot),
@@ -31,17 +26,9 @@ pub enum Received {
     Refused(Refusal),
 }
 
-// What a send or a receive answers, and the state's tick after it.
-#[derive(Drop)]
-pub struct SentAt {
-    pub answer: Sent,
-    pub tick: Tick,
-}
-
-// And the window that a receive looked into, for the next one.
-#[derive(Drop)]
-pub struct ReceivedAt {
+// What a receive answers, and the window that it looked into, for the next one.
+#[derive(Clone, Copy)]
+pub struct Looked {
     pub answer: Received,
-    pub tick: Tick,
-    pub remembered: Remembered,
+    pub remembered: Option<Remembered>,
 }

@@ -2,27 +2,17 @@
 ghost use Rattle.std.specs.Prelude.{◌≡◌};
 ghost use Rattle.running.specs.Calls.{start_answer, start_memory};
 
-use crate::Started;
 use plan::Plan;
-use plan::refusal::{Refusal, Rule, Verdict};
+use plan::refusal::{Refusal, Rule};
 
 // What a start answers; where it accepts the plan it clears its slots.
-pub fn started(plan: Plan, memory: &mut [u8]) -> Started
+pub fn started(plan: Plan, memory: &mut [u8]) -> Result<(), Refusal>
     ensures { (result ≡ start_answer plan memory.old) × (memory.new ≡ start_memory plan memory.old) }
 {
-    if !soundness::sound(plan) {
-        return Started::Refused(Refusal {
-            rule: Rule::UnsoundPlan,
-            row: 0,
-        });
+    if !soundness::sound(&plan) {
+        return Err(Refusal::unnamed(Rule::UnsoundPlan));
     }
-    let verdict = judge::judge_start(plan, memory);
-    if let Verdict::Refused(refusal) = verdict {
-        return Started::Refused(refusal);
-    }
-    slots::clear(
-        memory,
-        judge::slots_of(plan.queues, &plan.size, &plan.place),
-    );
-    Started::Ready
+    judge::judge_start(&plan, memory)?;
+    slots::clear(memory, judge::slots_of(&plan));
+    Ok(())
 }

@@ -1,13 +1,11 @@
--- `horizon`, `need` and `row_slots` of the model, over columns that have no receiver: two numbers stand in its place, its period, here
--- `chart`, and how long its messages are wanted. With a plan's own columns and numbers they are those of its queue.
+-- `horizon`, `need` and `row_slots` of the model, over two numbers in the receiver's place: its period, here `chart`, and how long its
+-- messages are wanted.
 use Rattle.std.specs.Prelude.{◌+◌, ◌-◌, ◌/◌, ◌<◌, ◌≤◌, ◌≡◌}
 use Rattle.common.specs.Words.{ℕ, div-mul-le_self, div-eq_of_lt-le, lt-div-mul-add, arith, refl, ap}
 use Rattle.common.specs.Totals.{most}
 use Rattle.model.specs.Model.{Queue, released, release_of, deadline_of, due_at, precedes, up_to, followers, number, receiver_period, wanted_for}
 use Rattle.model.specs.Model.{horizon, outdated, need, row_slots}
-use Rattle.plan.specs.Plan.{queue_at}
-use Rattle.plan.specs.declared.Plan.{Plan}
-use Rattle.counting.specs.Columns.{number_due, plan_ordered}
+use Rattle.counting.specs.Lent.{number_due}
 
 abbrev pub horizon_for : ℕ → ℕ → ℕ → ℕ
 horizon_for chart wanted r = released chart ((r - wanted) / chart)
@@ -33,7 +31,7 @@ horizon_stays chart wanted from r h a b =
 pub horizon_ahead : (chart wanted r : ℕ) → 1 ≤ chart → r < horizon_for chart wanted r + wanted + chart
 horizon_ahead chart wanted r h = omega (arith, lt-div-mul-add {a = r - wanted} h)
 
-pub row_slots_ordered : (p : Plan) (q H i : ℕ) →
-    row_slots_for (plan_ordered p q) (receiver_period (queue_at p q)) (wanted_for (queue_at p q)) H i ≡ row_slots (queue_at p q) H i
+-- with the receiver's own period and deadline they are the model's
+pub row_slots_own : (q : Queue) (H i : ℕ) → row_slots_for q (receiver_period q) (wanted_for q) H i ≡ row_slots q H i
 unfolding row_slots need number outdated horizon up_to followers due_at precedes
-row_slots_ordered p q H i = refl
+row_slots_own q H i = refl

@@ -2,7 +2,8 @@
 ghost use Rattle.std.specs.Prelude.{◌≡◌, ◌+◌, ◌-◌, ◌^◌, ◌<◌, ◌≤◌};
 ghost use Rattle.model.specs.Model.{count, up_to};
 ghost use Rattle.plan.specs.Limits.{last_tick};
-ghost use Rattle.counting.specs.Columns.{columns_at, ordered_at, Lent, number_due};
+ghost use Rattle.plan.specs.Plan.{queue_at};
+ghost use Rattle.counting.specs.Lent.{Lent, number_due};
 
 use calendar::Tick;
 use plan::Plan;
@@ -17,31 +18,18 @@ fn between(period: u64, deadline: u64, from: Tick, to: Tick) -> u64
 
 // What the task's message with its deadline at a tick asks for, where the messages with deadlines up to the horizon are outdated. One pass
 // over the rows counts for both.
-pub fn need_of<'a>(
-    sends: &'a [bool; Plan::CELLS],
-    period: &'a [u64; Plan::TASKS],
-    deadline: &'a [u64; Plan::TASKS],
-    priority: &'a [u8; Plan::TASKS],
-    tasks: usize,
-    queue: usize,
-    task: usize,
-    due: Tick,
-    horizon: Tick,
-) -> u64
-    requires { Lent sends.now period.now deadline.now tasks queue × (horizon.0 < due.0) × (due.0 ≤ last_tick) × (task < tasks) }
-    ensures { result ≡
-        number_due (ordered_at sends.now period.now deadline.now priority.now tasks queue)
-        due.0 task
-        - up_to (columns_at sends.now period.now deadline.now tasks queue) horizon.0 }
+pub fn need_of(plan: &Plan, queue: usize, task: usize, due: Tick, horizon: Tick) -> u64
+    requires { Lent plan.now queue × (horizon.0 < due.0) × (due.0 ≤ last_tick) × (task < plan.now.tasks) }
+    ensures { result ≡ number_due (queue_at plan.now queue) due.0 task - up_to (queue_at plan.now queue) horizon.0 }
 {
     let base = queue * Plan::TASKS;
     let before = Tick(due.0 - 1);
-    let own = priority[task];
+    let own = plan.priority[task];
     let mut sum: u64 = 0;
-    for i in 0..tasks {
-        if sends[base + i] {
-            let until = counting::number::last_counted(own, priority[i], task, i, before);
-            sum += between(period[i], deadline[i], horizon, until);
+    for i in 0..plan.tasks {
+        if plan.sends[base + i] {
+            let until = counting::number::last_counted(own, plan.priority[i], task, i, before);
+            sum += between(plan.period[i], plan.deadline[i], horizon, until);
         }
     }
     sum

@@ -3,10 +3,15 @@
 use Rattle.std.specs.Prelude.{◌≡◌, ◌⊎◌, ◌∷◌, ◌++◌, ◌+◌, ◌*◌, ◌/◌, ◌%◌, ◌≤◌, ◌<◌, ◌^◌}
 use Rattle.common.specs.Words.{refl, sym, ◌∙◌, inl, inr, ⊎_elim, List, [], ℕ, add-zero, div-add-mod', div-div-eq-div-mul, mul-le-mul_right}
 use Rattle.common.specs.Words.{arith, lit<, length, get_or, drop, replicate, length-append, length-drop, length-replicate, get_or-replicate}
-use Rattle.common.specs.Words.{get_or-append, sets, length-sets, drop_at, drop-set-lt}
+use Rattle.common.specs.Words.{get_or-append, append_assoc, take, drop-drop, sets, sets-eq, length-sets, drop_at, drop-set-lt}
+use borrow.Rule.Slice.PartMut.{put_mid}
 use Rattle.common.specs.Tests.{lt_or_le}
 use Rattle.common.specs.Stores.{sets_in, sets_before, sets_after, sets_append, part_same, part_other}
 use Rattle.slots.specs.Slots.{bytes_of, joined, number_from, slot_at, number_in, payload_in, stored, cleared}
+
+-- the code copies a run of bytes into a part of the memory
+pub put_sets : (l vs : List ℕ) (i : ℕ) → i + length vs ≤ length l → put_mid i (length vs) l vs ≡ sets l i vs
+put_sets l vs i h = rw (sets-eq vs l i h, append_assoc (take i l) vs (drop (i + length vs) l), drop-drop (length vs) i l)
 
 -- ## A number in 8 bytes
 

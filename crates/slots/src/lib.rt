@@ -8,7 +8,7 @@ ghost use Rattle.std.specs.Prelude.{◌≡◌, ◌+◌, ◌^◌, ◌≤◌, ◌<
 ghost use Rattle.common.specs.Words.{length, sets};
 ghost use Rattle.calendar.specs.Calendar.{message};
 ghost use Rattle.plan.specs.Limits.{payload_bytes, slot_bytes};
-ghost use Rattle.slots.specs.Slots.{bytes_of, joined, slot_at, number_in, stored, cleared};
+ghost use Rattle.slots.specs.Slots.{bytes_of, slot_at, number_in, stored, cleared};
 
 use calendar::{Number, Slot};
 use plan::Plan;
@@ -22,24 +22,13 @@ pub fn clear(memory: &mut [u8], slots: usize)
     ensures { memory.new ≡ cleared payload_bytes memory.old slots }
 {
     let end = slots * Plan::SLOT_BYTES;
-    for i in 0..end {
-        memory[i] = 0;
-    }
+    memory[..end].fill(0);
 }
 
 fn bytes_of(number: Number) -> [u8; NUMBER_BYTES]
     ensures { result ≡ bytes_of number.0 }
 {
-    [
-        digits::numbers::low_byte(number.0 / 0x100_0000_0000_0000),
-        digits::numbers::low_byte(number.0 / 0x1_0000_0000_0000),
-        digits::numbers::low_byte(number.0 / 0x100_0000_0000),
-        digits::numbers::low_byte(number.0 / 0x1_0000_0000),
-        digits::numbers::low_byte(number.0 / 0x100_0000),
-        digits::numbers::low_byte(number.0 / 0x1_0000),
-        digits::numbers::low_byte(number.0 / 0x100),
-        digits::numbers::low_byte(number.0),
-    ]
+    number.0.to_be_bytes()
 }
 
 // Copies all of `from` into the memory from index `at` on.
@@ -47,9 +36,7 @@ fn copy(memory: &mut [u8], at: usize, from: &[u8])
     requires { at + length from.now ≤ length memory.old }
     ensures { memory.new ≡ sets memory.old at from.now }
 {
-    for k in 0..from.len() {
-        memory[at + k] = from[k];
-    }
+    memory[at..at + from.len()].copy_from_slice(from);
 }
 
 // Puts a message into a slot, counted from the start of memory.
@@ -63,25 +50,21 @@ pub fn store(memory: &mut [u8], slot: Slot, number: Number, payload: &[u8])
     copy(memory, at + NUMBER_BYTES, payload);
 }
 
-// Four bytes as a number. Each byte is a parameter, so that its bound is known.
-fn join(a: u8, b: u8, c: u8, d: u8) -> u64
-    ensures { (result ≡ joined a b c d) × (result < 2 ^ 32) }
-{
-    (a as u64) * 0x100_0000 + (b as u64) * 0x1_0000 + (c as u64) * 0x100 + (d as u64)
-}
-
 // The number that a slot holds, 0 where it was never written.
 pub fn number_in(memory: &[u8], slot: Slot) -> Number
     requires { slot_at payload_bytes slot.0 + slot_bytes ≤ length memory.now }
     ensures { result ≡ message (number_in payload_bytes memory.now slot.0) }
 {
     let at = slot.0 * Plan::SLOT_BYTES;
-    let high = join(memory[at], memory[at + 1], memory[at + 2], memory[at + 3]);
-    let low = join(
+    let bytes = [
+        memory[at],
+        memory[at + 1],
+        memory[at + 2],
+        memory[at + 3],
         memory[at + 4],
         memory[at + 5],
         memory[at + 6],
         memory[at + 7],
-    );
-    Number(high * 0x1_0000_0000 + low)
+    ];
+    Number(u64::from_be_bytes(bytes))
 }

@@ -12,16 +12,16 @@ use plan::Plan;
 fn place_good(size: usize, place: usize, before: usize) -> bool
     ensures { result ≡ place_good size place before }
 {
-    rules::one_to(Plan::MOST_SLOTS as u64, size as u64) && place == before
+    (1..=Plan::MOST_SLOTS).contains(&size) && place == before
 }
 
 // Sizes and places: one sum runs along the queues, and is the place of the next one. A size over the limit is refused before it is
 // added, so the sum stays small.
-fn places_good(plan: Plan) -> bool
-    requires { plan.queues ≤ queue_limit }
-    ensures { result ≡ places_good plan }
+fn places_good(plan: &Plan) -> bool
+    requires { plan.now.queues ≤ queue_limit }
+    ensures { result ≡ places_good plan.now }
 {
-    let mut total: usize = 0;
+    let mut total = 0;
     for q in 0..plan.queues {
         let size = plan.size[q];
         if !place_good(size, plan.place[q], total) {
@@ -33,22 +33,17 @@ fn places_good(plan: Plan) -> bool
 }
 
 // Rule 7: the plan keeps rules 1 to 3, and its sizes and places are good.
-pub fn sound(plan: Plan) -> bool
-    ensures { result ≡ sound_plan plan }
+pub fn sound(plan: &Plan) -> bool
+    ensures { result ≡ sound_plan plan.now }
 {
     if !rules::counts_good(plan.tasks, plan.queues) {
         return false;
     }
-    let period = plan.period;
-    let deadline = plan.deadline;
-    if rules::first_bad_task(period, deadline, plan.tasks) < plan.tasks {
+    if rules::first_bad_task(&plan.period, &plan.deadline, plan.tasks).is_some() {
         return false;
     }
-    let sends = plan.sends;
-    let receiver = plan.receiver;
-    if rules::first_bad_queue(square::square_of(sends), receiver, plan.tasks, plan.queues)
-        < plan.queues
-    {
+    let square = square::square_of(&plan.sends);
+    if rules::first_bad_queue(square, &plan.receiver, plan.tasks, plan.queues).is_some() {
         return false;
     }
     places_good(plan)

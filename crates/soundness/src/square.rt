@@ -5,24 +5,22 @@ ghost use Rattle.plan.specs.Limits.{queue_limit};
 ghost use Rattle.plan.specs.Square.{row_of, square_of};
 
 use plan::Plan;
+use std::array;
 
-fn row_of(sends: [bool; Plan::CELLS], q: usize) -> [bool; Plan::TASKS]
+fn row_of(sends: &[bool; Plan::CELLS], q: usize) -> [bool; Plan::TASKS]
     requires { q < queue_limit }
-    ensures { result ≡ row_of sends q }
+    ensures { result ≡ row_of sends.now q }
 {
-    let mut row = [false; Plan::TASKS];
-    for i in 0..Plan::TASKS {
-        row[i] = sends[q * Plan::TASKS + i];
-    }
-    row
+    array::from_fn(|i| sends[q * Plan::TASKS + i])
 }
 
-pub fn square_of(sends: [bool; Plan::CELLS]) -> [[bool; Plan::TASKS]; Plan::QUEUES]
-    ensures { result ≡ square_of sends }
+pub fn square_of(sends: &[bool; Plan::CELLS]) -> [[bool; Plan::TASKS]; Plan::QUEUES]
+    ensures { result ≡ square_of sends.now }
 {
-    let mut square = [[false; Plan::TASKS]; Plan::QUEUES];
-    for q in 0..Plan::QUEUES {
-        square[q] = row_of(sends, q);
-    }
-    square
+    array::from_fn(
+        |q|
+            requires { q < queue_limit }
+            ensures { result ≡ row_of sends.entry.now q }
+        { row_of(sends, q) },
+    )
 }

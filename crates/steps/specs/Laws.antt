@@ -1,14 +1,15 @@
 -- Laws of rules: rules in a row, choices and loops as the code takes them, and that a rule goes on by as many tokens as it reads.
-use Rattle.std.specs.Prelude.{◌+◌, ◌<◌, ◌≤◌, ◌∷◌, ◌≡◌}
-use Rattle.common.specs.Words.{ℕ, zero, suc, arith, Bool, true, false, true≢false, cond, List, [], refl, sym, ap, ◌∙◌, eqb, eqb-true}
-use Rattle.common.specs.Words.{leb-true, eq-eqb, ne_eqb, length, drop, drop-drop, length-drop}
-use Rattle.words.specs.Words.{is_name, first_name}
+use Rattle.std.specs.Prelude.{◌+◌, ◌<◌, ◌≤◌, ◌∷◌, ◌≡◌, Result, Ok, Err}
+use Rattle.common.specs.Words.{ℕ, zero, suc, arith, Bool, true, false, true≢false, cond, List, [], refl, sym, ap, ◌∙◌}
+use Rattle.common.specs.Words.{length, drop, drop-drop, length-drop}
+use Rattle.words.specs.declared.kinds.Kind.{Kind}
+use Rattle.words.specs.Words.{is_name}
+use Rattle.words.specs.Same.{same_kind, kind_is, kind_apart, name_real}
 use Rattle.words.specs.Letters.{same}
 use Rattle.words.specs.Kinds.{ENDED, THREAD, PORT, ARROW, DELAYING}
 use Rattle.tokens.specs.Tokens.{Token, from}
 use Rattle.tokens.specs.Laws.{either, cases, start_of, from_first}
-use Rattle.steps.specs.declared.Fault.{Fault}
-use Rattle.steps.specs.declared.Went.{Went}
+use Rattle.steps.specs.declared.faults.Fault.{Fault}
 use Rattle.steps.specs.Steps.{Step, On, Stop, ◌⟫◌, head, next, is, any, the, name, own, optional, many_by, many}
 use Rattle.steps.specs.Lifted.{lift, first, first_kind, holds, size}
 
@@ -37,19 +38,19 @@ optional_off b f (On ts) h = rw h
 optional_off b f (Stop x) h = refl
 
 -- a test of the next token's kind, as the code makes it
-pub kind_on : (t : ℕ → Bool) (s : Step) → t ENDED ≡ false → t (first_kind s) ≡ true → holds (λ ts. t (next ts)) s ≡ true
+pub kind_on : (t : Kind → Bool) (s : Step) → t ENDED ≡ false → t (first_kind s) ≡ true → holds (λ ts. t (next ts)) s ≡ true
 kind_on t (On ts) e h = h
 kind_on t (Stop x) e h = absurd (true≢false (sym h ∙ e))
 
-pub kind_off : (t : ℕ → Bool) (s : Step) → t (first_kind s) ≡ false → holds (λ ts. t (next ts)) s ≡ false
+pub kind_off : (t : Kind → Bool) (s : Step) → t (first_kind s) ≡ false → holds (λ ts. t (next ts)) s ≡ false
 kind_off t (On ts) h = h
 kind_off t (Stop x) h = refl
 
-pub is_on : (kind : ℕ) (s : Step) → (ENDED ≡ kind → ⊥) → first_kind s ≡ kind → holds (is kind) s ≡ true
-is_on kind s n e = kind_on (λ k. eqb k kind) s (ne_eqb ENDED kind n) (eq-eqb (first_kind s) kind e)
+pub is_on : (kind : Kind) (s : Step) → same_kind ENDED kind ≡ false → same_kind (first_kind s) kind ≡ true → holds (is kind) s ≡ true
+is_on kind s n e = kind_on (λ k. same_kind k kind) s n e
 
-pub is_off : (kind : ℕ) (s : Step) → (first_kind s ≡ kind → ⊥) → holds (is kind) s ≡ false
-is_off kind s n = kind_off (λ k. eqb k kind) s (ne_eqb (first_kind s) kind n)
+pub is_off : (kind : Kind) (s : Step) → same_kind (first_kind s) kind ≡ false → holds (is kind) s ≡ false
+is_off kind s n = kind_off (λ k. same_kind k kind) s n
 
 -- whether no rule has stopped; none had before then either
 abbrev pub going : Step → Bool
@@ -60,20 +61,21 @@ going_before (On ts) rule h = refl
 going_before (Stop f) rule h = h
 
 -- the token that a name stands as, by its place
-pub token_there : (p : List ℕ) (w : Went) → going (lift p w) ≡ true → head (from p (first (lift p w)).start) ≡ first (lift p w)
-token_there p (Went.To at) h = ap head (ap (from p) (sym (its_start (from p at))) ∙ from_first p at)
+pub token_there : (p : List ℕ) (w : Result ℕ Fault) → going (lift p w) ≡ true → head (from p (first (lift p w)).start) ≡ first (lift p w)
+token_there p (Ok at) h = ap head (ap (from p) (sym (its_start (from p at))) ∙ from_first p at)
   where
     its_start : (ts : List Token) → start_of ts ≡ (head ts).start
     its_start [] = refl
     its_start (k ∷ ts) = refl
-token_there p (Went.Stopped f) h = absurd (true≢false (sym h))
+token_there p (Err f) h = absurd (true≢false (sym h))
 
 -- ## How far a rule goes
 
 -- a token's weight: its bytes, as far as its kind tells
-abbrev pub weight_of : ℕ → ℕ
+abbrev pub weight_of : Kind → ℕ
 weight_of kind =
-    cond (eqb kind ENDED) 0 (cond (eqb kind THREAD) 6 (cond (eqb kind PORT) 4 (cond (eqb kind ARROW) 2 (cond (eqb kind DELAYING) 2 1))))
+    cond (same_kind kind ENDED) 0
+    (cond (same_kind kind THREAD) 6 (cond (same_kind kind PORT) 4 (cond (same_kind kind ARROW) 2 (cond (same_kind kind DELAYING) 2 1))))
 
 unfoldable pub weight : List Token → ℕ
 weight [] = 0
@@ -131,8 +133,8 @@ unfolding weight
 goes_one n k ts h = record { passed = 1; left = refl; heavy = omega arith }
 
 -- a token that is not the text's end has a byte at least
-pub weighs : (kind : ℕ) → (kind ≡ ENDED → ⊥) → 1 ≤ weight_of kind
-weighs kind n = rw (ne_eqb kind ENDED n) (go (eqb kind THREAD) (eqb kind PORT) (eqb kind ARROW) (eqb kind DELAYING))
+pub weighs : (kind : Kind) → same_kind kind ENDED ≡ false → 1 ≤ weight_of kind
+weighs kind n = rw n (go (same_kind kind THREAD) (same_kind kind PORT) (same_kind kind ARROW) (same_kind kind DELAYING))
   where
     go : (a b c d : Bool) → 1 ≤ cond a 6 (cond b 4 (cond c 2 (cond d 2 1)))
     go true b c d = omega arith
@@ -145,21 +147,22 @@ pub moves_any : Moves 0 any
 unfolding any
 moves_any [] = went (goes_none [])
 moves_any (k ∷ ts) = went (either (λ (r : List Token). Goes 0 (k ∷ ts) r)
-    (eqb k.kind ENDED) (goes_none (k ∷ ts)) (goes_one 0 k ts (omega arith)))
+    (same_kind k.kind ENDED) (goes_none (k ∷ ts)) (goes_one 0 k ts (omega arith)))
 
 -- where it is not the text's end
-pub moved_any : (ts : List Token) → (next ts ≡ ENDED → ⊥) → Moved 1 ts (any ts)
+pub moved_any : (ts : List Token) → same_kind (next ts) ENDED ≡ false → Moved 1 ts (any ts)
 unfolding any
-moved_any [] n = absurd (n refl)
-moved_any (k ∷ ts) n = rw (ne_eqb k.kind ENDED n) (went (goes_one 1 k ts (weighs k.kind n)))
+moved_any [] n = absurd (true≢false n)
+moved_any (k ∷ ts) n = rw n (went (goes_one 1 k ts (weighs k.kind n)))
 
-pub moves_the : (kind : ℕ) → (kind ≡ ENDED → ⊥) → Moves (weight_of kind) (the kind)
+pub moves_the : (kind : Kind) → same_kind kind ENDED ≡ false → Moves (weight_of kind) (the kind)
 unfolding any the
-moves_the kind n [] = cases (Moved (weight_of kind) []) (eqb ENDED kind) (λ e. absurd (n (sym (eqb-true ENDED kind e)))) (λ _. stopped)
+moves_the kind n [] =
+    cases (Moved (weight_of kind) []) (same_kind ENDED kind) (λ e. absurd (kind_apart kind ENDED n (sym (kind_is ENDED kind e)))) (λ _. stopped)
 moves_the kind n (k ∷ ts) =
-    cases (Moved (weight_of kind) (k ∷ ts)) (eqb k.kind kind)
-    (λ e. let h : k.kind ≡ kind = eqb-true k.kind kind e in
-    rw (ne_eqb k.kind ENDED (λ x. n (sym h ∙ x))) (went (goes_one (weight_of kind) k ts (rw h (omega arith)))))
+    cases (Moved (weight_of kind) (k ∷ ts)) (same_kind k.kind kind)
+    (λ e. let h : k.kind ≡ kind = kind_is k.kind kind e in
+    rw (rw (← h) at n) (went (goes_one (weight_of kind) k ts (rw h (omega arith)))))
     (λ _. stopped)
 
 pub moves_name : Moves 1 name
@@ -167,9 +170,7 @@ unfolding any name
 moves_name [] = stopped
 moves_name (k ∷ ts) =
     cases (Moved 1 (k ∷ ts)) (is_name k.kind)
-    (λ e. let h : first_name ≤ k.kind = leb-true first_name k.kind e in
-    rw (ne_eqb k.kind ENDED (λ x. omega arith))
-    (went (goes_one 1 k ts (weighs k.kind (λ x. omega arith)))))
+    (λ e. let h = name_real k.kind e in rw h (went (goes_one 1 k ts (weighs k.kind h))))
     (λ _. stopped)
 
 pub moves_own : (n : Token) → Moves 1 (own n)
@@ -177,9 +178,8 @@ unfolding any own
 moves_own n [] = stopped
 moves_own n (k ∷ ts) =
     cases (Moved 1 (k ∷ ts)) (is_name k.kind)
-    (λ e. let h : first_name ≤ k.kind = leb-true first_name k.kind e in
-    moved_either (same k.letters n.letters) (rw (ne_eqb k.kind ENDED (λ x. omega arith))
-    (went (goes_one 1 k ts (weighs k.kind (λ x. omega arith))))) stopped)
+    (λ e. let h = name_real k.kind e in
+    moved_either (same k.letters n.letters) (rw h (went (goes_one 1 k ts (weighs k.kind h)))) stopped)
     (λ _. stopped)
 
 pub moved_on : {n m : ℕ} {ts rest : List Token} {s : Step} → Goes n ts rest → Moved m rest s → Moved (n + m) ts s

@@ -1,7 +1,9 @@
 -- The rules of one token at a token that the code has found.
-use Rattle.std.specs.Prelude.{◌-◌, ◌<◌, ◌≤◌, ◌≡◌}
-use Rattle.common.specs.Words.{ℕ, arith, Bool, false, cond, List, length, ap, eq-eqb, ne_eqb, le-leb, lt-leb}
-use Rattle.words.specs.Words.{first_name, NAME}
+use Rattle.std.specs.Prelude.{◌-◌, ◌≡◌}
+use Rattle.common.specs.Words.{ℕ, arith, Bool, true, false, cond, List, length, ap}
+use Rattle.words.specs.declared.kinds.Kind.{Kind}
+use Rattle.words.specs.Words.{is_name, NAME}
+use Rattle.words.specs.Same.{kind_same, kind_differs, name_there}
 use Rattle.words.specs.Kinds.{ENDED}
 use Rattle.common.specs.Stores.{part, part_length}
 use Rattle.words.specs.Letters.{same}
@@ -9,48 +11,50 @@ use Rattle.words.specs.Found.{same_length}
 use Rattle.tokens.specs.Tokens.{Token, from}
 use Rattle.tokens.specs.Spots.{Stands, token_of, behind}
 use Rattle.tokens.specs.declared.Spot.{Spot}
+use Rattle.steps.specs.declared.faults.Rule.TheVariants.{Unfit}
+use Rattle.steps.specs.declared.faults.Why.{Why}
 use Rattle.steps.specs.Faults.{fault}
 use Rattle.steps.specs.Steps.{On, Stop, any, the, name, own, its_own}
 
 module _ (p : List ℕ) (at : ℕ) (s : Spot) (here : Stands p at s) where
   pub any_end : s.kind ≡ ENDED → On (from p at) ≡ any (from p at)
   unfolding any
-  any_end e = rw (here.tokens, eq-eqb s.kind ENDED e)
+  any_end e = rw (here.tokens, kind_same s.kind ENDED e)
 
   pub any_on : (s.kind ≡ ENDED → ⊥) → On (from p s.end) ≡ any (from p at)
   unfolding any behind
-  any_on n = rw (here.tokens, ne_eqb s.kind ENDED n)
+  any_on n = rw (here.tokens, kind_differs s.kind ENDED n)
 
-  pub the_off : (kind : ℕ) → (s.kind ≡ kind → ⊥) → Stop (fault 20 s.start kind) ≡ the kind (from p at)
+  pub the_off : (kind : Kind) → (s.kind ≡ kind → ⊥) → Stop (fault Unfit s.start (Why.Expected kind)) ≡ the kind (from p at)
   unfolding the
-  the_off kind n = rw (here.tokens, ne_eqb s.kind kind n)
+  the_off kind n = rw (here.tokens, kind_differs s.kind kind n)
 
-  pub the_on : (kind : ℕ) → s.kind ≡ kind → any (from p at) ≡ the kind (from p at)
+  pub the_on : (kind : Kind) → s.kind ≡ kind → any (from p at) ≡ the kind (from p at)
   unfolding the
-  the_on kind e = rw (here.tokens, eq-eqb s.kind kind e)
+  the_on kind e = rw (here.tokens, kind_same s.kind kind e)
 
-  pub name_off : s.kind < first_name → Stop (fault 20 s.start NAME) ≡ name (from p at)
+  pub name_off : is_name s.kind ≡ false → Stop (fault Unfit s.start (Why.Expected NAME)) ≡ name (from p at)
   unfolding name
-  name_off l = rw (here.tokens, lt-leb first_name s.kind l)
+  name_off l = rw (here.tokens, l)
 
-  pub name_on : first_name ≤ s.kind → any (from p at) ≡ name (from p at)
+  pub name_on : is_name s.kind ≡ true → any (from p at) ≡ name (from p at)
   unfolding name
-  name_on l = rw (here.tokens, le-leb first_name s.kind l)
+  name_on l = rw (here.tokens, l)
 
-  pub own_name_lem : (k : Token) → s.kind < first_name → Stop (fault 20 s.start its_own) ≡ own k (from p at)
+  pub own_name_lem : (k : Token) → is_name s.kind ≡ false → Stop (fault Unfit s.start its_own) ≡ own k (from p at)
   unfolding own
-  own_name_lem k l = rw (here.tokens, lt-leb first_name s.kind l)
+  own_name_lem k l = rw (here.tokens, l)
 
-  pub own_by : (k : Token) (b : Bool) → first_name ≤ s.kind → same (token_of p s).letters k.letters ≡ b →
-      cond b (any (from p at)) (Stop (fault 20 s.start its_own)) ≡ own k (from p at)
+  pub own_by : (k : Token) (b : Bool) → is_name s.kind ≡ true → same (token_of p s).letters k.letters ≡ b →
+      cond b (any (from p at)) (Stop (fault Unfit s.start its_own)) ≡ own k (from p at)
   unfolding own
-  own_by k b l e = rw (here.tokens, le-leb first_name s.kind l, e)
+  own_by k b l e = rw (here.tokens, l, e)
 
 -- a token has a byte at least, the text's end none, so that their bytes are not the same
-pub end_differs : (p : List ℕ) (at by : ℕ) (s e : Spot) → Stands p at s → Stands p by e → first_name ≤ s.kind → e.kind ≡ ENDED →
+pub end_differs : (p : List ℕ) (at by : ℕ) (s e : Spot) → Stands p at s → Stands p by e → is_name s.kind ≡ true → e.kind ≡ ENDED →
     same (token_of p s).letters (token_of p e).letters ≡ false
 end_differs p at by s e h g n k =
-    let r : s.kind ≡ ENDED → ⊥ = λ x. omega arith in
+    let r = name_there s.kind n in
     let x = part_length p s.start s.end h.forward (h.within r) in
     let z : e.end - e.start ≡ 0 = omega (arith, g.empty k) in
     same_length (token_of p s).letters (token_of p e).letters (λ l.

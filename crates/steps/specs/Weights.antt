@@ -1,11 +1,12 @@
 -- Tokens weigh no more than the bytes that they stand in.
 use Rattle.std.specs.Prelude.{◌+◌, ◌-◌, ◌%◌, ◌<◌, ◌≤◌, ◌&&◌, ◌∷◌, ◌≡◌}
-use Rattle.common.specs.Words.{ℕ, zero, suc, arith, Bool, true, false, List, [], refl, mod-lt, eqb, leb, leb-true, ne_eqb, length, take, drop}
+use Rattle.common.specs.Words.{ℕ, zero, suc, arith, Bool, true, false, List, [], refl, eqb, leb, leb-true, ne_eqb, length, take, drop}
 use Rattle.common.specs.Words.{get_or, length-drop, length-take-le}
 use Rattle.common.specs.Tests.{and_left, and_right}
 use Rattle.words.specs.Letters.{words_by, same, same_eq}
-use Rattle.words.specs.Words.{listed, rank, first_word, NAME, kind_of}
-use Rattle.words.specs.Kinds.{ENDED, THREAD, PORT, NUMBER, BECOMES, ADDS, ARROW, DELAYING, BOTH_WAYS, SCOPE, DOTS}
+use Rattle.words.specs.Words.{listed, rank, kinds, NAME, kind_of}
+use Rattle.words.specs.declared.kinds.Kind.{Kind}
+use Rattle.words.specs.Kinds.{NUMBER, BECOMES, ADDS, ARROW, DELAYING, BOTH_WAYS, SCOPE, DOTS}
 use Rattle.tokens.specs.declared.Shape.{Shape}
 use Rattle.tokens.specs.Tokens.{Token, sort_of, run, blank, letter, digit, shape, word_shape, number_width, one_of, sign_shape, shape_of, none}
 use Rattle.tokens.specs.Tokens.{tokens_by, from}
@@ -14,47 +15,56 @@ use Rattle.steps.specs.Laws.{weight_of, weight}
 
 -- ## Words
 
+-- what the kind of a word weighs, by its number in the list
+abbrev weight_at : ℕ → ℕ
+weight_at k = weight_of (get_or kinds k NAME)
+
 -- each word of a list, whose first has the number k, has as many letters as its kind weighs
 unfoldable spelled : List (List ℕ) → ℕ → Bool
 spelled [] k = true
-spelled (v ∷ vs) k = leb (weight_of k) (length v) && spelled vs (k + 1)
+spelled (v ∷ vs) k = leb (weight_at k) (length v) && spelled vs (k + 1)
 
-all_spelled : spelled listed first_word ≡ true
-unfolding spelled listed words_by
+all_spelled : spelled listed 0 ≡ true
+unfolding spelled listed kinds words_by
 all_spelled = refl
 
 rank_weighs : (vs : List (List ℕ)) (k other : ℕ) (w : List ℕ) → spelled vs k ≡ true →
-    weight_of other ≤ length w → weight_of (rank vs k other w) ≤ length w
+    weight_at other ≤ length w → weight_at (rank vs k other w) ≤ length w
 unfolding spelled rank
 rank_weighs [] k other w h g = g
 rank_weighs (v ∷ vs) k other w h g =
-    cases (λ (x : ℕ). weight_of x ≤ length w) (same v w)
-    (λ e. rw (← same_eq v w e) (leb-true (weight_of k) (length v) (and_left (leb (weight_of k) (length v)) _ h)))
-    (λ _. rank_weighs vs (k + 1) other w (and_right (leb (weight_of k) (length v)) _ h) g)
+    cases (λ (x : ℕ). weight_at x ≤ length w) (same v w)
+    (λ e. rw (← same_eq v w e) (leb-true (weight_at k) (length v) (and_left (leb (weight_at k) (length v)) _ h)))
+    (λ _. rank_weighs vs (k + 1) other w (and_right (leb (weight_at k) (length v)) _ h) g)
+
+no_word : weight_at 82 ≡ 1
+unfolding kinds
+no_word = refl
 
 word_weighs : (w : List ℕ) → 0 < length w → weight_of (kind_of w) ≤ length w
 unfolding kind_of
-word_weighs w h = rank_weighs listed first_word NAME w all_spelled h
+word_weighs w h = rank_weighs listed 0 82 w all_spelled (omega (arith, no_word))
 
 -- ## Signs
 
-byte_weighs : (a : ℕ) → weight_of (a % 256) ≤ 1
+byte_weighs : (a : ℕ) → weight_of (Kind.Sign a) ≤ 1
 byte_weighs a =
-    let l : a % 256 < 256 = mod-lt a (omega arith) in
     rw (
-      ne_eqb (a % 256) THREAD (λ e. omega arith),
-      ne_eqb (a % 256) PORT (λ e. omega arith),
-      ne_eqb (a % 256) ARROW (λ e. omega arith),
-      ne_eqb (a % 256) DELAYING (λ e. omega arith),
+      ne_eqb (0x300 + a) 0x100 (λ e. omega arith),
+      ne_eqb (0x300 + a) 0x23e (λ e. omega arith),
+      ne_eqb (0x300 + a) 0x22a (λ e. omega arith),
+      ne_eqb (0x300 + a) 0x104 (λ e. omega arith),
+      ne_eqb (0x300 + a) 0x105 (λ e. omega arith),
     )
-    (either (λ (n : ℕ). n ≤ 1) (eqb (a % 256) ENDED) (omega arith) (omega arith))
+    (omega arith)
 
 sign_weighs : (a b c : ℕ) → weight_of (sign_shape a b c).kind ≤ (sign_shape a b c).width
 unfolding sign_shape
 sign_weighs a b c =
     let P : Shape → Type 0 = λ (s : Shape). weight_of s.kind ≤ s.width in
-    let one : (t : Bool) (k w : ℕ) → weight_of k ≤ w → P (one_of t k w a) =
-    λ (t : Bool) (k w : ℕ) (h : weight_of k ≤ w). either P t {x = shape k w} {y = shape (a % 256) 1} h (byte_weighs a) in
+    let one : (t : Bool) (k : Kind) (w : ℕ) → weight_of k ≤ w → P (one_of t k w a) =
+    λ (t : Bool) (k : Kind) (w : ℕ) (h : weight_of k ≤ w).
+    either P t {x = shape k w} {y = shape (Kind.Sign (a % 256)) 1} h (byte_weighs (a % 256)) in
     either P (eqb a 0x3d) (one (eqb b 0x3e) BECOMES 2 (omega arith))
     (either P (eqb a 0x2b) (one (eqb b 0x3d && eqb c 0x3e) ADDS 3 (omega arith))
     (either P (eqb a 0x2d) (either P (eqb b 0x3e && eqb c 0x3e) {x = shape DELAYING 3} (omega arith) (one (eqb b 0x3e) ARROW 2 (omega arith)))

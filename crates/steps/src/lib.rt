@@ -1,84 +1,49 @@
 // Rules of a grammar over a plain text: what a rule says, and the rules of one token.
 #![tactic(auto)]
 
-ghost use Rattle.std.specs.Prelude.{◌≡◌, ◌≤◌};
+ghost use Rattle.std.specs.Prelude.{◌≡◌, ◌≤◌, Err};
 ghost use Rattle.common.specs.Words.{length};
 ghost use Rattle.words.specs.Letters.{same};
 ghost use Rattle.words.specs.Words.{is_name};
 ghost use Rattle.tokens.specs.Tokens.{from};
 ghost use Rattle.tokens.specs.Spots.{token_of};
-ghost use Rattle.steps.specs.Faults.{fault, worse};
+ghost use Rattle.steps.specs.declared.faults.Rule.TheVariants.{Unfit};
+ghost use Rattle.steps.specs.Faults.{fault};
 ghost use Rattle.steps.specs.Steps.{◌⟫◌, head, stop_at, any, the, name, own};
 ghost use Rattle.steps.specs.Lifted.{lift, first, first_kind, second_kind};
 
 use tokens::{Spot, spot_at};
 use words::alike;
-use words::kinds::{ENDED, FIRST_NAME, NAME};
+use words::kinds::Kind;
 
-// A refusal: its number, its place, and what was expected there or what is wrong; number 0 says that there is none.
-#[derive(Clone, Copy)]
-pub struct Fault {
-    pub number: usize,
-    pub place: usize,
-    pub why: usize,
-}
+pub mod faults; // faults.rt: refusals
 
-// What a rule says: it went to a place, past what it reads, or it stopped at a fault. Each rule takes what the rule before it said, and
-// where that stopped hands it on.
-#[derive(Clone, Copy)]
-pub enum Went {
-    To(usize),
-    Stopped(Fault),
-}
+pub use faults::{Fault, Rule, Why, worse};
 
-pub const NO_FAULT: Fault = Fault {
-    number: 0,
-    place: 0,
-    why: 0,
-};
-
-// The one at the lesser place, at one place the one with the lower number; of two that are alike the first.
-pub fn worse(a: Fault, b: Fault) -> Fault
-    ensures { result ≡ worse a b }
-{
-    if b.number == 0 {
-        return a;
-    }
-    if a.number == 0 {
-        return b;
-    }
-    if b.place < a.place {
-        return b;
-    }
-    if a.place < b.place {
-        return a;
-    }
-    if b.number < a.number {
-        return b;
-    }
-    a
-}
+// What a rule says: the place that it went to, past what it reads, or the fault that it stopped at. Each rule takes what the rule before
+// it said, and where that stopped hands it on.
+pub type Went = Result<usize, Fault>;
 
 // The kind of the next token, the text's end where a rule has stopped.
-pub fn next(text: &[u8], went: Went) -> usize
+pub fn next(text: &[u8], went: Went) -> Kind
     ensures { result ≡ first_kind (lift text.now went) }
 {
-    let Went::To(at) = went else {
-        return ENDED;
+    let Ok(at) = went else {
+        return Kind::Ended;
     };
     spot_at(text, at).kind
 }
 
 // The kind of the token behind the next.
-pub fn second(text: &[u8], went: Went) -> usize
+pub fn second(text: &[u8], went: Went) -> Kind
     ensures { result ≡ second_kind (lift text.now went) }
 {
-    let Went::To(at) = went else {
-        return ENDED;
+    let Ok(at) = went else {
+        return Kind::Ended;
     };
     let first = spot_at(text, at);
-    if first.kind == ENDED {
-        return ENDED;
+    if first.kind == Kind::Ended {
+        return Kind::Ended;
     }
     spot_at(text, first.end).kind
 }
@@ -87,32 +52,30 @@ pub fn second(text: &[u8], went: Went) -> usize
 pub fn start_of(text: &[u8], went: Went) -> usize
     ensures { result ≡ (first (lift text.now went)).start }
 {
-    let Went::To(at) = went else {
+    let Ok(at) = went else {
         return 0;
     };
     spot_at(text, at).start
 }
 
 // Stops at the next token.
-pub fn stop(text: &[u8], went: Went, number: usize, why: usize) -> Went
-    ensures { lift text.now result ≡ lift text.now went ⟫ stop_at number why }
+pub fn stop(text: &[u8], went: Went, rule: Rule, why: Why) -> Went
+    ensures { lift text.now result ≡ lift text.now went ⟫ stop_at rule why }
 {
-    let Went::To(at) = went else {
-        return went;
-    };
-    Went::Stopped(Fault {
-        number,
+    let at = went?;
+    Err(Fault {
+        rule,
         place: spot_at(text, at).start,
         why,
     })
 }
 
 // What fits no rule.
-pub fn unfit(spot: Spot, why: usize) -> Went
-    ensures { result ≡ Went.Stopped (fault 20 spot.start why) }
+pub fn unfit(spot: Spot, why: Why) -> Went
+    ensures { result ≡ Err (fault Unfit spot.start why) }
 {
-    Went::Stopped(Fault {
-        number: 20,
+    Err(Fault {
+        rule: Rule::Unfit,
         place: spot.start,
         why,
     })
@@ -122,51 +85,62 @@ pub fn unfit(spot: Spot, why: usize) -> Went
 pub fn any(text: &[u8], went: Went) -> Went
     ensures { lift text.now result ≡ lift text.now went ⟫ any }
 {
-    let Went::To(at) = went else {
-        return went;
-    };
+    let at = went?;
     let spot = spot_at(text, at);
-    if spot.kind == ENDED {
+    if spot.kind == Kind::Ended {
         return went;
     }
-    Went::To(spot.end)
+    Ok(spot.end)
 }
 
 // The next token is of this kind.
-pub fn symbol(text: &[u8], went: Went, kind: usize) -> Went
+pub fn symbol(text: &[u8], went: Went, kind: Kind) -> Went
     ensures { lift text.now result ≡ lift text.now went ⟫ the kind }
 {
-    let Went::To(at) = went else {
-        return went;
-    };
+    let at = went?;
     let spot = spot_at(text, at);
     if spot.kind != kind {
-        return unfit(spot, kind);
+        return unfit(spot, Why::Expected(kind));
     }
-    if kind == ENDED {
+    if kind == Kind::Ended {
         return went;
     }
-    Went::To(spot.end)
+    Ok(spot.end)
 }
 
-pub fn is_name(kind: usize) -> bool
+// A reserved word is no name.
+pub fn is_name(kind: Kind) -> bool
     ensures { result ≡ is_name kind }
 {
-    FIRST_NAME <= kind
+    matches!(
+        kind,
+        Kind::Period
+            | Kind::Deadline
+            | Kind::DispatchProtocol
+            | Kind::DispatchOffset
+            | Kind::Priority
+            | Kind::Timing
+            | Kind::TimingProperties
+            | Kind::ThreadProperties
+            | Kind::CommunicationProperties
+            | Kind::Ms
+            | Kind::Sec
+            | Kind::Periodic
+            | Kind::Delayed
+            | Kind::Name
+    )
 }
 
 // The next token is a name.
 pub fn name(text: &[u8], went: Went) -> Went
     ensures { lift text.now result ≡ lift text.now went ⟫ name }
 {
-    let Went::To(at) = went else {
-        return went;
-    };
+    let at = went?;
     let spot = spot_at(text, at);
-    if spot.kind < FIRST_NAME {
-        return unfit(spot, NAME);
+    if !is_name(spot.kind) {
+        return unfit(spot, Why::Expected(Kind::Name));
     }
-    Went::To(spot.end)
+    Ok(spot.end)
 }
 
 // Whether two tokens have the same bytes. The text's end has none.
@@ -180,26 +154,21 @@ pub fn same_bytes(text: &[u8], a: Spot, b: Spot) -> bool
     alike(text, a.start, text, b.start, a.end - a.start)
 }
 
-// What was expected: the name that stands at the begin of what ends here.
-pub const ITS_OWN: usize = 0x300;
-
 // The next token is the name that stands at a place.
 pub fn own(text: &[u8], went: Went, at: usize) -> Went
     ensures { lift text.now result ≡ lift text.now went ⟫ own (head (from text.now at)) }
 {
-    let Went::To(here) = went else {
-        return went;
-    };
+    let here = went?;
     let spot = spot_at(text, here);
-    if spot.kind < FIRST_NAME {
-        return unfit(spot, ITS_OWN);
+    if !is_name(spot.kind) {
+        return unfit(spot, Why::ItsOwn);
     }
     let its = spot_at(text, at);
-    if its.kind == ENDED {
-        return unfit(spot, ITS_OWN);
+    if its.kind == Kind::Ended {
+        return unfit(spot, Why::ItsOwn);
     }
     if !same_bytes(text, spot, its) {
-        return unfit(spot, ITS_OWN);
+        return unfit(spot, Why::ItsOwn);
     }
-    Went::To(spot.end)
+    Ok(spot.end)
 }

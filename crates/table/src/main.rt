@@ -12,48 +12,44 @@ use plan::refusal::Refusal;
 use reader::{MOST_BYTES, MOST_ROWS, ROWS_ROOM, TREE_ROOM};
 use report::{WORDS_ROOM, say_refused, say_unread};
 use std::io::{Stderr, Stdout};
-use tableplans::{Answer, Import};
+use tableplans::{Import, Problem};
 
 const TEXT_ROOM: usize = MOST_BYTES + 1;
 
-fn print_table(stdout: Stdout, plan: Plan) {
+fn print_table(stdout: Stdout, plan: &Plan) {
     let mut out = [0u8; LINES_ROOM];
     let n = write_table(&mut out, plan);
-    Stream::open().write_answers(stdout, &out, n);
+    Stream::open().write_answers(stdout, &out[..n]);
 }
 
 // What the reader refuses.
 fn print_unread(stdout: Stdout, stderr: Stderr, text: &[u8], refusal: findings::Refusal) {
     let mut out = [0u8; LINES_ROOM];
     let n = write_unread(&mut out, refusal);
-    Stream::open().write_answers(stdout, &out, n);
+    Stream::open().write_answers(stdout, &out[..n]);
     let mut words = [0u8; WORDS_ROOM];
     let m = say_unread(&mut words, text, refusal);
-    blocks::write_words(stderr, &words, m);
+    blocks::write_words(stderr, &words[..m]);
 }
 
 // What planning refuses.
-fn print_refused(stdout: Stdout, stderr: Stderr, table: Table, refusal: Refusal) {
+fn print_refused(stdout: Stdout, stderr: Stderr, table: &Table, refusal: Refusal) {
     let mut out = [0u8; LINES_ROOM];
     let n = write_refusal(&mut out, refusal);
-    Stream::open().write_answers(stdout, &out, n);
+    Stream::open().write_answers(stdout, &out[..n]);
     let mut words = [0u8; WORDS_ROOM];
     let m = say_refused(&mut words, table, refusal);
-    blocks::write_words(stderr, &words, m);
+    blocks::write_words(stderr, &words[..m]);
 }
 
-fn print(stdout: Stdout, stderr: Stderr, text: &[u8], import: Import) {
-    let answer = import.answer;
-    let table = import.table;
-    let plan = import.plan;
-    match answer {
-        Answer::Accepted => print_table(stdout, plan),
-        Answer::TextRefused(refusal) => print_unread(stdout, stderr, text, refusal),
-        Answer::TableRefused(refusal) => print_refused(stdout, stderr, table, refusal),
-        Answer::NoRoom => {
-            let words = b"the memory is too short\n";
-            blocks::write_words(stderr, words, words.len());
+fn print(stdout: Stdout, stderr: Stderr, text: &[u8], import: &Import) {
+    match import.answer {
+        Ok(()) => print_table(stdout, &import.plan),
+        Err(Problem::TextRefused(refusal)) => print_unread(stdout, stderr, text, refusal),
+        Err(Problem::TableRefused(refusal)) => {
+            print_refused(stdout, stderr, &import.table, refusal)
         }
+        Err(Problem::NoRoom) => blocks::write_words(stderr, b"the memory is too short\n"),
     }
 }
 
@@ -65,9 +61,9 @@ fn main(rt: HostRuntime) {
     let mut connected = [0u32; TREE_ROOM];
     let mut queued = [0u32; TREE_ROOM];
     let mut types = [0u32; MOST_ROWS];
-    let n = blocks::read_text(rt.stdin(), &mut text);
+    let text = blocks::read_text(rt.stdin(), &mut text);
     let import = imports::plan_text(
-        &text[..n],
+        text,
         &mut plain,
         &mut rows,
         &mut declared,
@@ -75,5 +71,5 @@ fn main(rt: HostRuntime) {
         &mut queued,
         &mut types,
     );
-    print(rt.stdout(), rt.stderr(), &text[..n], import);
+    print(rt.stdout(), rt.stderr(), text, &import);
 }

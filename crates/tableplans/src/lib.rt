@@ -10,84 +10,71 @@ use plan::Plan;
 use planning::Planned;
 use soundness::square::square_of;
 
-// A refusal is the reader's, of the text, or planning's, of the table of a sound text. NoRoom is for memory that is too short for some text.
-#[derive(Drop)]
-pub enum Answer {
-    Accepted,
+// Why a text has no plan: the reader refuses the text, or planning the table of a sound text. NoRoom is for memory that is too short for
+// some text.
+#[derive(Clone, Copy, PartialEq, Eq)]
+pub enum Problem {
     TextRefused(findings::Refusal),
     TableRefused(plan::refusal::Refusal),
     NoRoom,
 }
 
-// The answer, the reader's table and planning's plan: each that of all zeros where there is none.
+// The answer, the reader's table and planning's plan: each that of all zeros where there is none (unsound_zeros says so of any text).
 #[derive(Drop)]
 pub struct Import {
-    pub answer: Answer,
+    pub answer: Result<(), Problem>,
     pub table: Table,
     pub plan: Plan,
 }
 
-fn plan_of(table: Table) -> Planned
-    ensures { result ≡ planned table }
+#[tactic(auto, unfolding(crate::specs::TablePlans::planned))]
+fn plan_of(table: &Table) -> Planned
+    ensures { result ≡ planned table.now }
 {
-    let period = table.period;
-    let deadline = table.deadline;
-    let priority = table.priority;
-    let receiver = table.receiver;
-    let sends = table.sends;
     planning::make_plan(
         table.tasks,
         table.queues,
-        period,
-        deadline,
-        priority,
-        receiver,
-        square_of(sends),
+        table.period,
+        table.deadline,
+        table.priority,
+        table.receiver,
+        square_of(&table.sends),
     )
-}
-
-fn planning_says(answer: planning::Answer) -> Answer
-    ensures { result ≡ planning_says answer }
-{
-    match answer {
-        planning::Answer::Accepted => Answer::Accepted,
-        planning::Answer::Refused(refusal) => Answer::TableRefused(refusal),
-    }
 }
 
 // A table with what planning makes of it.
 fn with_plan(table: Table) -> Import
     ensures { result ≡ with_plan table (planned table) }
 {
-    let made = plan_of(table);
-    let answer = made.answer;
-    let plan = made.plan;
+    let Planned { answer, plan } = plan_of(&table);
     Import {
-        answer: planning_says(answer),
+        answer: answer.map_err(Problem::TableRefused),
         table,
         plan,
     }
 }
 
-fn unplanned(answer: Answer, table: Table) -> Import
-    ensures { result ≡ unplanned answer table }
+fn unplanned(problem: Problem, table: Table) -> Import
+    ensures { result ≡ unplanned problem table }
 {
     Import {
-        answer,
+        answer: Err(problem),
         table,
         plan: Plan::zeros(),
     }
 }
 
 // What a text comes to, by the reader's answer.
+#[tactic(auto, unfolding(crate::specs::TablePlans::import_by))]
 pub fn import_by(read: Read) -> Import
     ensures { result ≡ import_by read.answer read.table }
 {
-    let answer = read.answer;
-    let table = read.table;
+    let Read { answer, table } = read;
     match answer {
-        findings::Answer::Sound => with_plan(table),
-        findings::Answer::Refused(refusal) => unplanned(Answer::TextRefused(refusal), table),
-        findings::Answer::NoRoom => unplanned(Answer::NoRoom, table),
+        Ok(()) => with_plan(table),
+        Err(findings::Problem::Refused(refusal)) => {
+            unplanned(Problem::TextRefused(refusal), table)
+        }
+        Err(findings::Problem::NoRoom) => unplanned(Problem::NoRoom, table),
     }
 }

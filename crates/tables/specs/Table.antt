@@ -1,18 +1,18 @@
 -- The table that planning is handed, as a plan that has no sizes yet: "queues and task rows beyond the counts are ignored and are zeros
 -- in a plan we make".
 use Rattle.std.specs.Prelude.{◌/◌, ◌%◌, ◌&&◌}
-use Rattle.common.specs.Words.{ℕ, Bool, List, ltb, get_or, replicate}
-use Rattle.common.specs.Terms.{only, table}
+use Rattle.common.specs.Words.{ℕ, Bool, List, cond, ltb, get_or, replicate}
+use Rattle.common.specs.Terms.{table}
 use Rattle.plan.specs.Limits.{task_limit, queue_limit, cell_limit}
 use Rattle.plan.specs.Square.{entry}
 use Rattle.plan.specs.declared.Plan.{Plan}
 
--- the first n of a column's values, and zeros beyond; the column has `limit` rows
-abbrev pub value_within : ℕ → List ℕ → ℕ → ℕ
-value_within n values i = only (ltb i n) (get_or values i 0)
+-- the first n of a column's values, and zero beyond; the column has `limit` rows
+abbrev pub value_within : {A : Type 0} → ℕ → List A → A → ℕ → A
+value_within n values zero i = cond (ltb i n) (get_or values i zero) zero
 
 abbrev pub counted : ℕ → ℕ → List ℕ → List ℕ
-counted limit n values = table (value_within n values) limit
+counted limit n values = table (value_within n values 0) limit
 
 -- the square kept flat: entry q * 16 + i says whether task i sends into queue q
 abbrev pub flat_entry : ℕ → List (List Bool) → ℕ → Bool

@@ -1,6 +1,9 @@
 -- Laws of whole texts: what the code does one after another and by choice is what the rules say, and how far they go.
+use Rattle.steps.specs.declared.faults.Rule.TheVariants.{Unfit}
+use Rattle.words.specs.Same.{kind_differs}
+use Rattle.words.specs.Same.{same_kind}
 use Rattle.std.specs.Prelude.{◌≡◌, ◌&&◌}
-use Rattle.common.specs.Words.{arith, true, false, true≢false, List, refl, sym, ap, ◌∙◌, eqb, eq-eqb, ne_eqb}
+use Rattle.common.specs.Words.{arith, true, false, true≢false, List, refl, sym, ap, ◌∙◌}
 use Rattle.words.specs.Kinds.{ENDED, THREAD, PROCESS, IMPLEMENTATION, GROUP, ANNEX, PACKAGE, WITH, PROPERTIES, NONE}
 use Rattle.tokens.specs.Tokens.{Token}
 use Rattle.tokens.specs.Laws.{cases}
@@ -48,81 +51,87 @@ module _ (s : Step) where
 -- ## What the code does in a declaration
 
 module _ (s : State) where
-  pub thread_by_implementation : second_kind s.went ≡ IMPLEMENTATION → does s thread_implementation ≡ does s thread_by
+  pub thread_by_implementation : same_kind (second_kind s.went) IMPLEMENTATION ≡ true → does s thread_implementation ≡ does s thread_by
   unfolding does thread_by
   thread_by_implementation =
-      by_went (λ (s : State). second_kind s.went ≡ IMPLEMENTATION → does s thread_implementation ≡ does s thread_by)
-      (λ ts qs x t e. rw (eq-eqb (second ts) IMPLEMENTATION e)) (λ f qs x t e. refl) s
+      by_went (λ (s : State). same_kind (second_kind s.went) IMPLEMENTATION ≡ true → does s thread_implementation ≡ does s thread_by)
+      (λ ts qs x t e. rw e) (λ f qs x t e. refl) s
 
-  pub thread_by_group : (second_kind s.went ≡ IMPLEMENTATION → ⊥) → second_kind s.went ≡ GROUP → does s other ≡ does s thread_by
+  pub thread_by_group : same_kind (second_kind s.went) IMPLEMENTATION ≡ false → same_kind (second_kind s.went) GROUP ≡ true →
+      does s other ≡ does s thread_by
   unfolding does thread_by
   thread_by_group =
-      by_went (λ (s : State). (second_kind s.went ≡ IMPLEMENTATION → ⊥) →
-      second_kind s.went ≡ GROUP → does s other ≡ does s thread_by)
-      (λ ts qs x t n e. rw (ne_eqb (second ts) IMPLEMENTATION n, eq-eqb (second ts) GROUP e)) (λ f qs x t n e. refl) s
+      by_went (λ (s : State). same_kind (second_kind s.went) IMPLEMENTATION ≡ false →
+      same_kind (second_kind s.went) GROUP ≡ true → does s other ≡ does s thread_by)
+      (λ ts qs x t n e. rw (n, e)) (λ f qs x t n e. refl) s
 
-  pub thread_by_type : (second_kind s.went ≡ IMPLEMENTATION → ⊥) →
-      (second_kind s.went ≡ GROUP → ⊥) → does s thread_type ≡ does s thread_by
+  pub thread_by_type : same_kind (second_kind s.went) IMPLEMENTATION ≡ false →
+      same_kind (second_kind s.went) GROUP ≡ false → does s thread_type ≡ does s thread_by
   unfolding does thread_by
   thread_by_type =
-      by_went (λ (s : State). (second_kind s.went ≡ IMPLEMENTATION → ⊥) →
-      (second_kind s.went ≡ GROUP → ⊥) → does s thread_type ≡ does s thread_by)
-      (λ ts qs x t n m. rw (ne_eqb (second ts) IMPLEMENTATION n, ne_eqb (second ts) GROUP m)) (λ f qs x t n m. refl) s
+      by_went (λ (s : State). same_kind (second_kind s.went) IMPLEMENTATION ≡ false →
+      same_kind (second_kind s.went) GROUP ≡ false → does s thread_type ≡ does s thread_by)
+      (λ ts qs x t n m. rw (n, m)) (λ f qs x t n m. refl) s
 
-  pub chosen_thread : first_kind s.went ≡ THREAD → does s thread_by ≡ does s chosen
+  pub chosen_thread : same_kind (first_kind s.went) THREAD ≡ true → does s thread_by ≡ does s chosen
   unfolding does chosen
   chosen_thread =
-      by_went (λ (s : State). first_kind s.went ≡ THREAD → does s thread_by ≡ does s chosen)
-      (λ ts qs x t e. rw (eq-eqb (next ts) THREAD e)) (λ f qs x t e. refl) s
+      by_went (λ (s : State). same_kind (first_kind s.went) THREAD ≡ true → does s thread_by ≡ does s chosen)
+      (λ ts qs x t e. rw e) (λ f qs x t e. refl) s
 
-  pub chosen_annex : (first_kind s.went ≡ THREAD → ⊥) → first_kind s.went ≡ ANNEX → does s (quiet annex) ≡ does s chosen
+  pub chosen_annex : same_kind (first_kind s.went) THREAD ≡ false → same_kind (first_kind s.went) ANNEX ≡ true → does s (quiet annex) ≡
+      does s chosen
   unfolding does chosen
   chosen_annex =
-      by_went (λ (s : State). (first_kind s.went ≡ THREAD → ⊥) → first_kind s.went ≡ ANNEX → does s (quiet annex) ≡ does s chosen)
-      (λ ts qs x t n e. rw (ne_eqb (next ts) THREAD n, eq-eqb (next ts) ANNEX e)) (λ f qs x t n e. refl) s
+      by_went (λ (s : State). same_kind (first_kind s.went) THREAD ≡ false → same_kind (first_kind s.went) ANNEX ≡ true →
+      does s (quiet annex) ≡ does s chosen)
+      (λ ts qs x t n e. rw (n, e)) (λ f qs x t n e. refl) s
 
-  pub chosen_process : (first_kind s.went ≡ THREAD → ⊥) → (first_kind s.went ≡ ANNEX → ⊥) →
-      (eqb (first_kind s.went) PROCESS && eqb (second_kind s.went) IMPLEMENTATION) ≡ true → does s process_implementation ≡ does s chosen
+  pub chosen_process : same_kind (first_kind s.went) THREAD ≡ false → same_kind (first_kind s.went) ANNEX ≡ false →
+      (same_kind (first_kind s.went) PROCESS && same_kind (second_kind s.went) IMPLEMENTATION) ≡ true → does s process_implementation ≡
+      does s chosen
   unfolding does chosen
   chosen_process =
-      by_went (λ (s : State). (first_kind s.went ≡ THREAD → ⊥) → (first_kind s.went ≡ ANNEX → ⊥) →
-      (eqb (first_kind s.went) PROCESS && eqb (second_kind s.went) IMPLEMENTATION) ≡ true → does s process_implementation ≡ does s chosen)
-      (λ ts qs x t n m h. rw (ne_eqb (next ts) THREAD n, ne_eqb (next ts) ANNEX m, h)) (λ f qs x t n m h. refl) s
+      by_went (λ (s : State). same_kind (first_kind s.went) THREAD ≡ false → same_kind (first_kind s.went) ANNEX ≡ false →
+      (same_kind (first_kind s.went) PROCESS && same_kind (second_kind s.went) IMPLEMENTATION) ≡ true → does s process_implementation ≡
+      does s chosen)
+      (λ ts qs x t n m h. rw (n, m, h)) (λ f qs x t n m h. refl) s
 
-  pub chosen_other : (first_kind s.went ≡ THREAD → ⊥) → (first_kind s.went ≡ ANNEX → ⊥) →
-      (eqb (first_kind s.went) PROCESS && eqb (second_kind s.went) IMPLEMENTATION) ≡ false → does s other ≡ does s chosen
+  pub chosen_other : same_kind (first_kind s.went) THREAD ≡ false → same_kind (first_kind s.went) ANNEX ≡ false →
+      (same_kind (first_kind s.went) PROCESS && same_kind (second_kind s.went) IMPLEMENTATION) ≡ false → does s other ≡ does s chosen
   unfolding does chosen
   chosen_other =
-      by_went (λ (s : State). (first_kind s.went ≡ THREAD → ⊥) → (first_kind s.went ≡ ANNEX → ⊥) →
-      (eqb (first_kind s.went) PROCESS && eqb (second_kind s.went) IMPLEMENTATION) ≡ false → does s other ≡ does s chosen)
-      (λ ts qs x t n m h. rw (ne_eqb (next ts) THREAD n, ne_eqb (next ts) ANNEX m, h)) (λ f qs x t n m h. refl) s
+      by_went (λ (s : State). same_kind (first_kind s.went) THREAD ≡ false → same_kind (first_kind s.went) ANNEX ≡ false →
+      (same_kind (first_kind s.went) PROCESS && same_kind (second_kind s.went) IMPLEMENTATION) ≡ false → does s other ≡ does s chosen)
+      (λ ts qs x t n m h. rw (n, m, h)) (λ f qs x t n m h. refl) s
 
 -- ## In a package
 
-pub none_on : (s : Step) → first_kind s ≡ NONE → s ⟫ nothing ≡ s ⟫ none_or_some
+pub none_on : (s : Step) → same_kind (first_kind s) NONE ≡ true → s ⟫ nothing ≡ s ⟫ none_or_some
 unfolding none_or_some
-none_on (On ts) e = rw (eq-eqb (next ts) NONE e)
+none_on (On ts) e = rw e
 none_on (Stop f) e = refl
 
-pub none_off : (s : Step) → (first_kind s ≡ NONE → ⊥) → s ⟫ associations ≡ s ⟫ none_or_some
+pub none_off : (s : Step) → same_kind (first_kind s) NONE ≡ false → s ⟫ associations ≡ s ⟫ none_or_some
 unfolding none_or_some
-none_off (On ts) n = rw (ne_eqb (next ts) NONE n)
+none_off (On ts) n = rw n
 none_off (Stop f) n = refl
 
-pub clause_with : (s : Step) → first_kind s ≡ WITH → s ⟫ the WITH ⟫ paths ≡ s ⟫ clause
+pub clause_with : (s : Step) → same_kind (first_kind s) WITH ≡ true → s ⟫ the WITH ⟫ paths ≡ s ⟫ clause
 unfolding clause
-clause_with (On ts) e = rw (eq-eqb (next ts) WITH e)
+clause_with (On ts) e = rw e
 clause_with (Stop f) e = refl
 
-pub clause_properties : (s : Step) → (first_kind s ≡ WITH → ⊥) →
-    first_kind s ≡ PROPERTIES → s ⟫ the PROPERTIES ⟫ none_or_some ≡ s ⟫ clause
+pub clause_properties : (s : Step) → same_kind (first_kind s) WITH ≡ false →
+    same_kind (first_kind s) PROPERTIES ≡ true → s ⟫ the PROPERTIES ⟫ none_or_some ≡ s ⟫ clause
 unfolding clause
-clause_properties (On ts) n e = rw (ne_eqb (next ts) WITH n, eq-eqb (next ts) PROPERTIES e)
+clause_properties (On ts) n e = rw (n, e)
 clause_properties (Stop f) n e = refl
 
-pub clause_word : (s : Step) → (first_kind s ≡ WITH → ⊥) → (first_kind s ≡ PROPERTIES → ⊥) → s ⟫ any ≡ s ⟫ clause
+pub clause_word : (s : Step) → same_kind (first_kind s) WITH ≡ false → same_kind (first_kind s) PROPERTIES ≡ false → s ⟫ any ≡
+    s ⟫ clause
 unfolding clause
-clause_word (On ts) n m = rw (ne_eqb (next ts) WITH n, ne_eqb (next ts) PROPERTIES m)
+clause_word (On ts) n m = rw (n, m)
 clause_word (Stop f) n m = refl
 
 pub head_then : (s : Step) → s ⟫ the PACKAGE ⟫ path ≡ s ⟫ package_head
@@ -151,30 +160,30 @@ module _ (s : State) where
 -- ## In a text
 
 module _ (s : State) where
-  pub piece_package : first_kind s.went ≡ PACKAGE → does s packaged ≡ does s piece
+  pub piece_package : same_kind (first_kind s.went) PACKAGE ≡ true → does s packaged ≡ does s piece
   unfolding does piece
   piece_package =
-      by_went (λ (s : State). first_kind s.went ≡ PACKAGE → does s packaged ≡ does s piece)
-      (λ ts qs x t e. rw (eq-eqb (next ts) PACKAGE e)) (λ f qs x t e. refl) s
+      by_went (λ (s : State). same_kind (first_kind s.went) PACKAGE ≡ true → does s packaged ≡ does s piece)
+      (λ ts qs x t e. rw e) (λ f qs x t e. refl) s
 
-  pub piece_declaration : (first_kind s.went ≡ PACKAGE → ⊥) → does s declaration ≡ does s piece
+  pub piece_declaration : same_kind (first_kind s.went) PACKAGE ≡ false → does s declaration ≡ does s piece
   unfolding does piece
   piece_declaration =
-      by_went (λ (s : State). (first_kind s.went ≡ PACKAGE → ⊥) → does s declaration ≡ does s piece)
-      (λ ts qs x t n. rw (ne_eqb (next ts) PACKAGE n)) (λ f qs x t n. refl) s
+      by_went (λ (s : State). same_kind (first_kind s.went) PACKAGE ≡ false → does s declaration ≡ does s piece)
+      (λ ts qs x t n. rw n) (λ f qs x t n. refl) s
 
   pub text_does : does (does s pieces) (quiet finished) ≡ does s whole_text
   unfolding whole_text
   text_does = does_then s pieces (quiet finished)
 
-pub finished_on : (s : Step) → first_kind s ≡ ENDED → s ≡ s ⟫ finished
+pub finished_on : (s : Step) → same_kind (first_kind s) ENDED ≡ true → s ≡ s ⟫ finished
 unfolding finished
-finished_on (On ts) e = rw (eq-eqb (next ts) ENDED e)
+finished_on (On ts) e = rw e
 finished_on (Stop f) e = refl
 
-pub finished_off : (s : Step) → (first_kind s ≡ ENDED → ⊥) → s ⟫ stop_at 20 a_declaration ≡ s ⟫ finished
+pub finished_off : (s : Step) → same_kind (first_kind s) ENDED ≡ false → s ⟫ stop_at Unfit a_declaration ≡ s ⟫ finished
 unfolding finished
-finished_off (On ts) n = rw (ne_eqb (next ts) ENDED n)
+finished_off (On ts) n = rw n
 finished_off (Stop f) n = refl
 
 -- ## How far they go
@@ -182,9 +191,9 @@ finished_off (Stop f) n = refl
 thread_by_moves : MovesOn 3 thread_by
 unfolding thread_by
 thread_by_moves ps ts =
-    cases (λ (s : Said). Moved 3 ts s.went) (eqb (second ts) IMPLEMENTATION)
+    cases (λ (s : Said). Moved 3 ts s.went) (same_kind (second ts) IMPLEMENTATION)
     (λ _. moved_less 3 (omega arith) (thread_implementation_moves ps ts))
-    (λ _. cases (λ (s : Said). Moved 3 ts s.went) (eqb (second ts) GROUP) (λ _. other_moves ps ts)
+    (λ _. cases (λ (s : Said). Moved 3 ts s.went) (same_kind (second ts) GROUP) (λ _. other_moves ps ts)
     (λ _. moved_less 3 (omega arith) (thread_type_moves ps ts)))
 
 chosen_moves : MovesOn 3 chosen
@@ -192,7 +201,7 @@ unfolding chosen
 chosen_moves ps ts =
     cases (λ (s : Said). Moved 3 ts s.went) (is THREAD ts) (λ _. thread_by_moves ps ts)
     (λ _. cases (λ (s : Said). Moved 3 ts s.went) (is ANNEX ts) (λ _. moved_less 3 (omega arith) (annex_moves ts))
-    (λ _. cases (λ (s : Said). Moved 3 ts s.went) (is PROCESS ts && eqb (second ts) IMPLEMENTATION)
+    (λ _. cases (λ (s : Said). Moved 3 ts s.went) (is PROCESS ts && same_kind (second ts) IMPLEMENTATION)
     (λ _. moved_less 3 (omega arith) (process_moves ps ts))
     (λ _. other_moves ps ts)))
 
@@ -205,16 +214,16 @@ unfolding none_or_some
 none_or_some_moves ts = moved_either (is NONE ts) (moved_less 0 (omega arith) (nothing_moves ts)) (associations_moves ts)
 
 -- its word is any: at the text's end it stays
-clause_moves : (ts : List Token) → (next ts ≡ ENDED → ⊥) → Moved 1 ts (clause ts)
+clause_moves : (ts : List Token) → same_kind (next ts) ENDED ≡ false → Moved 1 ts (clause ts)
 unfolding clause
 clause_moves ts n =
-    moved_either (is WITH ts) (moved_less 1 (omega arith) (moved_then (moves_the WITH (λ e. omega arith) ts) paths_moves))
-    (moved_either (is PROPERTIES ts) (moved_then (moves_the PROPERTIES (λ e. omega arith) ts) none_or_some_moves) (moved_any ts n))
+    moved_either (is WITH ts) (moved_less 1 (omega arith) (moved_then (moves_the WITH refl ts) paths_moves))
+    (moved_either (is PROPERTIES ts) (moved_then (moves_the PROPERTIES refl ts) none_or_some_moves) (moved_any ts n))
 
 pub part_advances : AdvancesOn begins_part part
 unfolding part
 part_advances ps ts h =
-    let real : next ts ≡ ENDED → ⊥ = λ e. true≢false (sym h ∙ ap part_kind e ∙ part_ended) in
+    let real = kind_differs (next ts) ENDED (λ e. true≢false (sym h ∙ ap part_kind e ∙ part_ended)) in
     cases (λ (s : Said). Moved 1 ts s.went) (clause_kind (next ts)) (λ _. clause_moves ts real)
     (λ _. moved_less 1 (omega arith) (declaration_moves ps ts))
 
@@ -225,7 +234,7 @@ parts_moves = moves_repeat begins_part part part_advances
 pub packaged_moves : MovesOn 5 packaged
 unfolding packaged
 packaged_moves ps ts =
-    moved_onward _ (quiet path_end) (moved_onward _ parts (moved_then (moves_the PACKAGE (λ e. omega arith) ts) path_moves) parts_moves)
+    moved_onward _ (quiet path_end) (moved_onward _ parts (moved_then (moves_the PACKAGE refl ts) path_moves) parts_moves)
     (moves_quiet path_end path_end_moves)
 
 pub piece_moves : MovesOn 3 piece

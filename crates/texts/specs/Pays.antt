@@ -1,6 +1,7 @@
 -- What a whole text declares is paid for by its bytes: a text has 9 bytes at least for each row.
+use Rattle.words.specs.Same.{same_kind}
 use Rattle.std.specs.Prelude.{◌*◌, ◌≤◌, ◌&&◌}
-use Rattle.common.specs.Words.{ℕ, arith, List, eqb, length}
+use Rattle.common.specs.Words.{ℕ, arith, List, length, refl}
 use Rattle.words.specs.Kinds.{ENDED, THREAD, PROCESS, IMPLEMENTATION, GROUP, ANNEX, PACKAGE, WITH, PROPERTIES, NONE}
 use Rattle.tokens.specs.Tokens.{from}
 use Rattle.tokens.specs.Laws.{cases}
@@ -23,8 +24,8 @@ use Rattle.texts.specs.Texts.{piece, begins_piece, pieces, finished, whole_text}
 thread_by_pays : Pays 0 0 thread_by
 unfolding thread_by
 thread_by_pays ps ts =
-    cases (PaidBy 0 0 ts) (eqb (second ts) IMPLEMENTATION) (λ _. paid_less 0 0 (omega arith) (omega arith) (thread_implementation_pays ps ts))
-    (λ _. cases (PaidBy 0 0 ts) (eqb (second ts) GROUP) (λ _. paid_less 0 0 (omega arith) (omega arith) (other_pays ps ts))
+    cases (PaidBy 0 0 ts) (same_kind (second ts) IMPLEMENTATION) (λ _. paid_less 0 0 (omega arith) (omega arith) (thread_implementation_pays ps ts))
+    (λ _. cases (PaidBy 0 0 ts) (same_kind (second ts) GROUP) (λ _. paid_less 0 0 (omega arith) (omega arith) (other_pays ps ts))
     (λ _. paid_less 0 0 (omega arith) (omega arith) (thread_type_pays ps ts)))
 
 chosen_pays : Pays 0 0 chosen
@@ -32,7 +33,7 @@ unfolding chosen
 chosen_pays ps ts =
     cases (PaidBy 0 0 ts) (is THREAD ts) (λ _. thread_by_pays ps ts)
     (λ _. cases (PaidBy 0 0 ts) (is ANNEX ts) (λ _. paid_less 0 0 (omega arith) (omega arith) (paid_moved (annex_moves ts)))
-    (λ _. cases (PaidBy 0 0 ts) (is PROCESS ts && eqb (second ts) IMPLEMENTATION)
+    (λ _. cases (PaidBy 0 0 ts) (is PROCESS ts && same_kind (second ts) IMPLEMENTATION)
     (λ _. paid_less 0 0 (omega arith) (omega arith) (process_pays ps ts))
     (λ _. paid_less 0 0 (omega arith) (omega arith) (other_pays ps ts))))
 
@@ -49,9 +50,9 @@ none_or_some_stays ts = moved_either (is NONE ts) (moved_less 0 (omega arith) (n
 clause_stays : Moves 0 clause
 unfolding clause
 clause_stays ts =
-    moved_either (is WITH ts) (moved_less 0 (omega arith) (moved_then (moves_the WITH (λ e. omega arith) ts) paths_moves))
+    moved_either (is WITH ts) (moved_less 0 (omega arith) (moved_then (moves_the WITH refl ts) paths_moves))
     (moved_either (is PROPERTIES ts) (moved_less 0 (omega arith)
-    (moved_then (moves_the PROPERTIES (λ e. omega arith) ts) none_or_some_stays)) (moves_any ts))
+    (moved_then (moves_the PROPERTIES refl ts) none_or_some_stays)) (moves_any ts))
 
 part_pays : Pays 0 0 part
 unfolding part
@@ -62,7 +63,7 @@ unfolding parts
 parts_pay = pays_repeat begins_part part part_pays
 
 head_moves : Moves 2 package_head
-head_moves ts = moved_then (moves_the PACKAGE (λ e. omega arith) ts) path_moves
+head_moves ts = moved_then (moves_the PACKAGE refl ts) path_moves
 
 pub packaged_pays : Pays 0 5 packaged
 unfolding packaged

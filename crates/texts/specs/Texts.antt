@@ -1,6 +1,9 @@
 -- AADL.md, section 2: declarations, packages and the whole text.
+use Rattle.steps.specs.declared.faults.Why.{Why}
+use Rattle.words.specs.Same.{same_kind}
+use Rattle.words.specs.declared.kinds.Kind.{Kind}
 use Rattle.std.specs.Prelude.{◌&&◌}
-use Rattle.common.specs.Words.{ℕ, Bool, true, cond, List, eqb}
+use Rattle.common.specs.Words.{Bool, true, cond, List}
 use Rattle.words.specs.Kinds.{ENDED, THREAD, PROCESS, IMPLEMENTATION, GROUP, ANNEX, PACKAGE, PUBLIC, PRIVATE, WITH, PROPERTIES, NONE}
 use Rattle.tokens.specs.Tokens.{Token}
 use Rattle.steps.specs.Steps.{Step, On, ◌⟫◌, next, second, is, any, the, unfit}
@@ -11,15 +14,15 @@ use Rattle.declarations.specs.Declarations.{thread_type, thread_implementation, 
 use Rattle.others.specs.Others.{other_kind, path_end, other}
 
 -- declaration = thread_type | thread_impl | process_impl | annex | other
-unfoldable pub declaration_kind : ℕ → Bool
-declaration_kind k = cond (eqb k THREAD) true (cond (eqb k ANNEX) true (other_kind k))
+unfoldable pub declaration_kind : Kind → Bool
+declaration_kind k = cond (same_kind k THREAD) true (cond (same_kind k ANNEX) true (other_kind k))
 
 -- "thread where "group" follows" is an other
 unfoldable pub thread_by : Rule
 thread_by ps ts =
     let type = thread_type ps ts in
     let group = other ps ts in
-    cond (eqb (second ts) IMPLEMENTATION) (thread_implementation ps ts) (cond (eqb (second ts) GROUP) group type)
+    cond (same_kind (second ts) IMPLEMENTATION) (thread_implementation ps ts) (cond (same_kind (second ts) GROUP) group type)
 
 -- "process (where "implementation" does not follow)" is an other
 unfoldable pub chosen : Rule
@@ -27,7 +30,7 @@ chosen ps ts =
     let process = process_implementation ps ts in
     let rest = other ps ts in
     let annexed = quiet annex ps ts in
-    cond (is THREAD ts) (thread_by ps ts) (cond (is ANNEX ts) annexed (cond (is PROCESS ts && eqb (second ts) IMPLEMENTATION) process rest))
+    cond (is THREAD ts) (thread_by ps ts) (cond (is ANNEX ts) annexed (cond (is PROCESS ts && same_kind (second ts) IMPLEMENTATION) process rest))
 
 -- each has properties of its own
 unfoldable pub declaration : Rule
@@ -38,13 +41,13 @@ unfoldable pub none_or_some : List Token → Step
 none_or_some ts = cond (is NONE ts) (nothing ts) (associations ts)
 
 -- "public" | "private" | "with" path { "," path } ";" | "properties" associations
-unfoldable pub clause_kind : ℕ → Bool
-clause_kind k = cond (eqb k PUBLIC) true (cond (eqb k PRIVATE) true (cond (eqb k WITH) true (eqb k PROPERTIES)))
+unfoldable pub clause_kind : Kind → Bool
+clause_kind k = cond (same_kind k PUBLIC) true (cond (same_kind k PRIVATE) true (cond (same_kind k WITH) true (same_kind k PROPERTIES)))
 
 unfoldable pub clause : List Token → Step
 clause ts = cond (is WITH ts) (the WITH ts ⟫ paths) (cond (is PROPERTIES ts) (the PROPERTIES ts ⟫ none_or_some) (any ts))
 
-unfoldable pub part_kind : ℕ → Bool
+unfoldable pub part_kind : Kind → Bool
 part_kind k = cond (clause_kind k) true (declaration_kind k)
 
 unfoldable pub part : Rule
@@ -64,8 +67,8 @@ unfoldable pub packaged : Rule
 packaged ps ts = quiet package_head ps ts ⨟ parts ⨟ quiet path_end
 
 -- text = { package | declaration }
-unfoldable pub piece_kind : ℕ → Bool
-piece_kind k = cond (eqb k PACKAGE) true (declaration_kind k)
+unfoldable pub piece_kind : Kind → Bool
+piece_kind k = cond (same_kind k PACKAGE) true (declaration_kind k)
 
 unfoldable pub piece : Rule
 piece ps ts = let declared = declaration ps ts in cond (is PACKAGE ts) (packaged ps ts) declared
@@ -77,8 +80,8 @@ unfoldable pub pieces : Rule
 pieces = repeat begins_piece piece
 
 -- what was expected there: a package, a declaration or the text's end
-abbrev pub a_declaration : ℕ
-a_declaration = 0x303
+abbrev pub a_declaration : Why
+a_declaration = Why.ADeclaration
 
 unfoldable pub finished : List Token → Step
 finished ts = cond (is ENDED ts) (On ts) (unfit a_declaration ts)

@@ -1,6 +1,7 @@
 -- Every row that a text declares has all its columns, and no Priority over 255.
+use Rattle.words.specs.Same.{same_kind}
 use Rattle.std.specs.Prelude.{◌&&◌}
-use Rattle.common.specs.Words.{[], refl, eqb}
+use Rattle.common.specs.Words.{[], refl}
 use Rattle.words.specs.Kinds.{THREAD, PROCESS, IMPLEMENTATION, GROUP, ANNEX, PACKAGE}
 use Rattle.tokens.specs.Laws.{cases}
 use Rattle.steps.specs.Steps.{next, second, is, any}
@@ -23,15 +24,15 @@ other_wide ps ts =
 thread_by_wide : WideOn thread_by
 unfolding thread_by
 thread_by_wide ps ts =
-    cases (Wide ps) (eqb (second ts) IMPLEMENTATION) (λ _. thread_implementation_wide ps ts)
-    (λ _. cases (Wide ps) (eqb (second ts) GROUP) (λ _. other_wide ps ts) (λ _. thread_type_wide ps ts))
+    cases (Wide ps) (same_kind (second ts) IMPLEMENTATION) (λ _. thread_implementation_wide ps ts)
+    (λ _. cases (Wide ps) (same_kind (second ts) GROUP) (λ _. other_wide ps ts) (λ _. thread_type_wide ps ts))
 
 chosen_wide : WideOn chosen
 unfolding chosen
 chosen_wide ps ts =
     cases (Wide ps) (is THREAD ts) (λ _. thread_by_wide ps ts)
     (λ _. cases (Wide ps) (is ANNEX ts) (λ _. wide_silent _ refl (λ l. l))
-    (λ _. cases (Wide ps) (is PROCESS ts && eqb (second ts) IMPLEMENTATION) (λ _. process_wide ps ts) (λ _. other_wide ps ts)))
+    (λ _. cases (Wide ps) (is PROCESS ts && same_kind (second ts) IMPLEMENTATION) (λ _. process_wide ps ts) (λ _. other_wide ps ts)))
 
 declaration_wide : WideOn declaration
 unfolding declaration

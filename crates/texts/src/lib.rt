@@ -2,7 +2,7 @@
 #![tactic(auto)]
 
 ghost use Rattle.std.specs.Prelude.{◌≡◌, ◌&&◌};
-ghost use Rattle.common.specs.Words.{eqb};
+ghost use Rattle.words.specs.Same.{same_kind};
 ghost use Rattle.words.specs.Kinds.{PROCESS, IMPLEMENTATION};
 ghost use Rattle.steps.specs.Steps.{◌⟫◌};
 ghost use Rattle.steps.specs.Lifted.{lift};
@@ -14,26 +14,15 @@ use declarations::{process_implementation, thread_implementation, thread_type};
 use others::{begins_other, other, path_end};
 use phrases::{annex, nothing, path, paths};
 use rows::{NO_PROPERTIES, Reading, begun, next_of, on, second_of, with_props};
-use steps::{Went, any, next, stop, symbol};
+use steps::{Rule, Went, Why, any, next, stop, symbol};
 use values::associations;
-use words::kinds::{
-    ANNEX, ENDED, GROUP, IMPLEMENTATION, NONE, PACKAGE, PRIVATE, PROCESS, PROPERTIES, PUBLIC,
-    THREAD, WITH,
-};
+use words::kinds::Kind;
 
-// What was expected: a package, a declaration or the text's end.
-pub const A_DECLARATION: usize = 0x303;
-
-fn begins_declaration(kind: usize) -> bool
+#[tactic(auto, unfolding(crate::specs::Texts::declaration_kind))]
+fn begins_declaration(kind: Kind) -> bool
     ensures { result ≡ declaration_kind kind }
 {
-    if kind == THREAD {
-        return true;
-    }
-    if kind == ANNEX {
-        return true;
-    }
-    begins_other(kind)
+    matches!(kind, Kind::Thread | Kind::Annex) || begins_other(kind)
 }
 
 // A declaration that begins with "thread".
@@ -42,22 +31,19 @@ fn thread_by(text: &[u8], rows: &mut [usize], reading: Reading) -> Reading
         ≡ does (state_of text.now reading rows.old) thread_by }
 {
     let second = second_of(text, reading);
-    if second == IMPLEMENTATION {
+    if second == Kind::Implementation {
         return thread_implementation(text, rows, reading);
     }
-    if second == GROUP {
+    if second == Kind::Group {
         return other(text, reading);
     }
     thread_type(text, rows, reading)
 }
 
-fn is_process(kind: usize, second: usize) -> bool
-    ensures { result ≡ (eqb kind PROCESS && eqb second IMPLEMENTATION) }
+fn is_process(kind: Kind, second: Kind) -> bool
+    ensures { result ≡ (same_kind kind PROCESS && same_kind second IMPLEMENTATION) }
 {
-    if kind != PROCESS {
-        return false;
-    }
-    second == IMPLEMENTATION
+    matches!((kind, second), (Kind::Process, Kind::Implementation))
 }
 
 fn chosen(text: &[u8], rows: &mut [usize], reading: Reading) -> Reading
@@ -66,10 +52,10 @@ fn chosen(text: &[u8], rows: &mut [usize], reading: Reading) -> Reading
 {
     let kind = next_of(text, reading);
     let went = reading.went;
-    if kind == THREAD {
+    if kind == Kind::Thread {
         return thread_by(text, rows, reading);
     }
-    if kind == ANNEX {
+    if kind == Kind::Annex {
         return on(reading, annex(text, went));
     }
     if is_process(kind, second_of(text, reading)) {
@@ -92,25 +78,20 @@ fn declaration(text: &[u8], rows: &mut [usize], reading: Reading) -> Reading
 fn none_or_some(text: &[u8], went: Went) -> Went
     ensures { lift text.now result ≡ lift text.now went ⟫ none_or_some }
 {
-    if next(text, went) == NONE {
+    if next(text, went) == Kind::None {
         return nothing(text, went);
     }
     associations(text, went)
 }
 
-fn begins_clause(kind: usize) -> bool
+#[tactic(auto, unfolding(crate::specs::Texts::clause_kind))]
+fn begins_clause(kind: Kind) -> bool
     ensures { result ≡ clause_kind kind }
 {
-    if kind == PUBLIC {
-        return true;
-    }
-    if kind == PRIVATE {
-        return true;
-    }
-    if kind == WITH {
-        return true;
-    }
-    kind == PROPERTIES
+    matches!(
+        kind,
+        Kind::Public | Kind::Private | Kind::With | Kind::Properties
+    )
 }
 
 // "public" | "private" | "with" path { "," path } ";" | "properties" associations
@@ -118,22 +99,20 @@ fn clause(text: &[u8], went: Went) -> Went
     ensures { lift text.now result ≡ lift text.now went ⟫ clause }
 {
     let kind = next(text, went);
-    if kind == WITH {
-        return paths(text, symbol(text, went, WITH));
+    if kind == Kind::With {
+        return paths(text, symbol(text, went, Kind::With));
     }
-    if kind == PROPERTIES {
-        return none_or_some(text, symbol(text, went, PROPERTIES));
+    if kind == Kind::Properties {
+        return none_or_some(text, symbol(text, went, Kind::Properties));
     }
     any(text, went)
 }
 
-fn begins_part(kind: usize) -> bool
+#[tactic(auto, unfolding(crate::specs::Texts::part_kind))]
+fn begins_part(kind: Kind) -> bool
     ensures { result ≡ part_kind kind }
 {
-    if begins_clause(kind) {
-        return true;
-    }
-    begins_declaration(kind)
+    begins_clause(kind) || begins_declaration(kind)
 }
 
 fn part(text: &[u8], rows: &mut [usize], reading: Reading) -> Reading
@@ -163,26 +142,24 @@ fn packaged(text: &[u8], rows: &mut [usize], reading: Reading) -> Reading
         ≡ does (state_of text.now reading rows.old) packaged }
 {
     let went = reading.went;
-    let head = on(reading, path(text, symbol(text, went, PACKAGE)));
+    let head = on(reading, path(text, symbol(text, went, Kind::Package)));
     let inner = parts(text, rows, head);
     let last = inner.went;
     on(inner, path_end(text, last))
 }
 
-fn begins_piece(kind: usize) -> bool
+#[tactic(auto, unfolding(crate::specs::Texts::piece_kind))]
+fn begins_piece(kind: Kind) -> bool
     ensures { result ≡ piece_kind kind }
 {
-    if kind == PACKAGE {
-        return true;
-    }
-    begins_declaration(kind)
+    kind == Kind::Package || begins_declaration(kind)
 }
 
 fn piece(text: &[u8], rows: &mut [usize], reading: Reading) -> Reading
     ensures { state_of text.now result rows.new
         ≡ does (state_of text.now reading rows.old) piece }
 {
-    if next_of(text, reading) == PACKAGE {
+    if next_of(text, reading) == Kind::Package {
         return packaged(text, rows, reading);
     }
     declaration(text, rows, reading)
@@ -203,10 +180,10 @@ fn pieces(text: &[u8], rows: &mut [usize], reading: Reading) -> Reading
 fn end(text: &[u8], went: Went) -> Went
     ensures { lift text.now result ≡ lift text.now went ⟫ finished }
 {
-    if next(text, went) == ENDED {
+    if next(text, went) == Kind::Ended {
         return went;
     }
-    stop(text, went, 20, A_DECLARATION)
+    stop(text, went, Rule::Unfit, Why::ADeclaration)
 }
 
 // A whole plain text, from its first byte on.

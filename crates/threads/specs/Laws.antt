@@ -59,12 +59,12 @@ unfolding thread_of
 thread_of_moves p n ps ts =
     moved_onward _ (put (λ qs. thread_row p n (type_in ts) (implementation_in ts) qs))
     (moved_onward _ (quiet (the SEMICOLON)) (moved_onward _ (maybe_block_in of_thread) (classifier_moves ts) (maybe_block_moves of_thread))
-    (moves_quiet (the SEMICOLON) (moves_the SEMICOLON (λ e. omega arith))))
+    (moves_quiet (the SEMICOLON) (moves_the SEMICOLON refl)))
     (moves_put (λ qs. thread_row p n (type_in ts) (implementation_in ts) qs))
 
 thread_moves : (p n : ℕ) → MovesOn 8 (thread p n)
 unfolding thread
-thread_moves p n ps ts = moved_onward _ (thread_of p n) (moves_the THREAD (λ e. omega arith) ts) (thread_of_moves p n)
+thread_moves p n ps ts = moved_onward _ (thread_of p n) (moves_the THREAD refl ts) (thread_of_moves p n)
 
 subcomponent_of_moves : (p n : ℕ) → MovesOn 1 (subcomponent_of p n)
 unfolding subcomponent_of

@@ -1,5 +1,5 @@
 -- A thread is paid for by its text.
-use Rattle.common.specs.Words.{ℕ, arith}
+use Rattle.common.specs.Words.{ℕ, arith, refl}
 use Rattle.words.specs.Kinds.{THREAD, SEMICOLON}
 use Rattle.tokens.specs.Laws.{cases}
 use Rattle.steps.specs.Steps.{head, next, named, the}
@@ -18,12 +18,12 @@ unfolding thread_of
 thread_of_pays p n ps ts =
     paid_onward _ (put (λ qs. thread_row p n (type_in ts) (implementation_in ts) qs))
     (paid_onward _ (quiet (the SEMICOLON)) (paid_onward _ (maybe_block_in of_thread) (paid_moved (classifier_moves ts)) (maybe_block_pays of_thread))
-    (pays_quiet (the SEMICOLON) (moves_the SEMICOLON (λ e. omega arith))))
+    (pays_quiet (the SEMICOLON) (moves_the SEMICOLON refl)))
     (pays_put (λ qs. thread_row p n (type_in ts) (implementation_in ts) qs))
 
 thread_pays : (p n : ℕ) → Pays 1 0 (thread p n)
 unfolding thread
-thread_pays p n ps ts = paid_onward _ (thread_of p n) (paid_moved (moves_the THREAD (λ e. omega arith) ts)) (thread_of_pays p n)
+thread_pays p n ps ts = paid_onward _ (thread_of p n) (paid_moved (moves_the THREAD refl ts)) (thread_of_pays p n)
 
 subcomponent_of_pays : (p n : ℕ) → Pays 1 0 (subcomponent_of p n)
 unfolding subcomponent_of

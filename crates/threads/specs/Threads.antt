@@ -1,5 +1,7 @@
 -- AADL.md, section 2: subcomponents of a process implementation.
-use Rattle.common.specs.Words.{ℕ, Bool, true, false, cond, List, eqb}
+use Rattle.words.specs.Same.{same_kind}
+use Rattle.words.specs.declared.kinds.Kind.{Kind}
+use Rattle.common.specs.Words.{ℕ, Bool, true, false, cond, List}
 use Rattle.words.specs.Kinds.{THREAD, DOT, SEMICOLON, DATA, SUBPROGRAM, ABSTRACT}
 use Rattle.tokens.specs.Tokens.{Token}
 use Rattle.steps.specs.Steps.{◌⟫◌, head, next, named, the, name}
@@ -26,8 +28,8 @@ unfoldable pub thread : ℕ → ℕ → Rule
 thread process n ps ts = quiet (the THREAD) ps ts ⨟ thread_of process n
 
 -- ( "data" | "subprogram" | "abstract" ) rest
-unfoldable pub other_component : ℕ → Bool
-other_component k = cond (eqb k DATA) true (cond (eqb k SUBPROGRAM) true (cond (eqb k ABSTRACT) true false))
+unfoldable pub other_component : Kind → Bool
+other_component k = cond (same_kind k DATA) true (cond (same_kind k SUBPROGRAM) true (cond (same_kind k ABSTRACT) true false))
 
 -- subcomponent = NAME ":" ( "thread" classifier [ block ] ";" | ( "data" | "subprogram" | "abstract" ) rest )
 unfoldable pub subcomponent_of : ℕ → ℕ → Rule

@@ -6,10 +6,10 @@ ghost use Rattle.rows.specs.States.{state_of, does};
 ghost use Rattle.threads.specs.Threads.{thread_of, thread, other_component, subcomponent_of, subcomponent, subcomponents};
 
 use phrases::{dotted, label, scopes, word_and_rest};
-use properties::{OF_THREAD, maybe_block_in};
+use properties::{Of, maybe_block_in};
 use rows::{NO_PROPERTIES, Reading, next_of, on, put, symbol_on, with_props};
 use steps::{is_name, name, next, start_of, symbol};
-use words::kinds::{ABSTRACT, DATA, DOT, SEMICOLON, SUBPROGRAM, THREAD};
+use words::kinds::Kind;
 
 // What a thread's row begins with.
 const A_THREAD: usize = 5;
@@ -28,9 +28,13 @@ fn thread_of(
     let went = reading.went;
     let scoped = scopes(text, went);
     let typed = name(text, scoped);
-    let made = symbol(text, typed, DOT);
+    let made = symbol(text, typed, Kind::Sign(b'.'));
     let head = on(reading, dotted(text, typed));
-    let whole = symbol_on(text, maybe_block_in(text, head, OF_THREAD), SEMICOLON);
+    let whole = symbol_on(
+        text,
+        maybe_block_in(text, head, Of::Thread),
+        Kind::Sign(b';'),
+    );
     let p = whole.props;
     put(
         rows,
@@ -61,22 +65,20 @@ fn thread(
     ensures { state_of text.now result rows.new
         ≡ does (state_of text.now reading rows.old) (thread process named) }
 {
-    thread_of(text, rows, symbol_on(text, reading, THREAD), process, named)
+    thread_of(
+        text,
+        rows,
+        symbol_on(text, reading, Kind::Thread),
+        process,
+        named,
+    )
 }
 
-fn is_other_component(kind: usize) -> bool
+#[tactic(auto, unfolding(crate::specs::Threads::other_component))]
+fn is_other_component(kind: Kind) -> bool
     ensures { result ≡ other_component kind }
 {
-    if kind == DATA {
-        return true;
-    }
-    if kind == SUBPROGRAM {
-        return true;
-    }
-    if kind == ABSTRACT {
-        return true;
-    }
-    false
+    matches!(kind, Kind::Data | Kind::Subprogram | Kind::Abstract)
 }
 
 fn subcomponent_of(

@@ -5,6 +5,8 @@ use Rattle.words.specs.Letters.{letters}
 use Rattle.words.specs.Words.{NAME}
 use Rattle.words.specs.Kinds.{ENDED, NUMBER, SEMICOLON, END, MS, SEC}
 use Rattle.tokens.specs.Tokens.{Token, token}
+use Rattle.steps.specs.declared.faults.Rule.TheVariants.{Unfit, NoTime}
+use Rattle.steps.specs.declared.faults.Why.{Why}
 use Rattle.steps.specs.Faults.{fault}
 use Rattle.steps.specs.Steps.{On, Stop}
 use Rattle.times.specs.Times.{with_byte, with_bytes, filled, most, Formed, formed, odd, valued, not_whole, unit_unknown, unit_missing, time_of, time}
@@ -22,7 +24,7 @@ abbrev ticks : ℕ → Formed
 ticks n = formed (On []) (valued n) []
 
 abbrev broken : Formed
-broken = formed (On []) odd (fault 22 7 not_whole ∷ [])
+broken = formed (On []) odd (fault NoTime 7 not_whole ∷ [])
 
 -- "0.5 sec is 500, 5.0 ms is 5"
 half_second : sec (letters "0.5") ≡ ticks 500
@@ -82,36 +84,38 @@ seconds : time (token NUMBER 3 (letters "1.5") ∷ token SEC 9 (letters "sec") �
 unfolding with_byte with_bytes filled time_of time
 seconds = refl
 
-milliseconds : time (token NUMBER 3 (letters "1.5") ∷ token MS 9 (letters "ms") ∷ rest) ≡ formed (On rest) odd (fault 22 3 not_whole ∷ [])
+milliseconds : time (token NUMBER 3 (letters "1.5") ∷ token MS 9 (letters "ms") ∷ rest) ≡ formed (On rest) odd (fault NoTime 3 not_whole ∷ [])
 unfolding with_byte with_bytes filled time_of time
 milliseconds = refl
 
 -- "at the unit, where it is not ms or sec (then the NUMBER is not judged)"; "Microseconds: 22 .. even where they come to whole ticks"
 microseconds : time (token NUMBER 3 (letters "1_000") ∷ token NAME 9 (letters "us") ∷ rest)
-    ≡ formed (On rest) odd (fault 22 9 unit_unknown ∷ [])
+    ≡ formed (On rest) odd (fault NoTime 9 unit_unknown ∷ [])
 unfolding with_byte with_bytes filled time_of time
 microseconds = refl
 
-unjudged : time (token NUMBER 3 (letters "0.5") ∷ token NAME 9 (letters "us") ∷ rest) ≡ formed (On rest) odd (fault 22 9 unit_unknown ∷ [])
+unjudged : time (token NUMBER 3 (letters "0.5") ∷ token NAME 9 (letters "us") ∷ rest) ≡
+    formed (On rest) odd (fault NoTime 9 unit_unknown ∷ [])
 unfolding with_byte with_bytes filled time_of time
 unjudged = refl
 
 -- "at the NUMBER, where no NAME follows": another token, a reserved word, or the text's end
-without : time (token NUMBER 3 (letters "5") ∷ rest) ≡ formed (On rest) odd (fault 22 3 unit_missing ∷ [])
+without : time (token NUMBER 3 (letters "5") ∷ rest) ≡ formed (On rest) odd (fault NoTime 3 unit_missing ∷ [])
 unfolding with_byte with_bytes filled time_of time
 without = refl
 
 reserved : time (token NUMBER 3 (letters "5") ∷ token END 5 (letters "end") ∷ rest)
-    ≡ formed (On (token END 5 (letters "end") ∷ rest)) odd (fault 22 3 unit_missing ∷ [])
+    ≡ formed (On (token END 5 (letters "end") ∷ rest)) odd (fault NoTime 3 unit_missing ∷ [])
 unfolding with_byte with_bytes filled time_of time
 reserved = refl
 
-ended : time (token NUMBER 3 (letters "5") ∷ token ENDED 4 [] ∷ []) ≡ formed (On (token ENDED 4 [] ∷ [])) odd (fault 22 3 unit_missing ∷ [])
+ended : time (token NUMBER 3 (letters "5") ∷ token ENDED 4 [] ∷ []) ≡
+    formed (On (token ENDED 4 [] ∷ [])) odd (fault NoTime 3 unit_missing ∷ [])
 unfolding with_byte with_bytes filled time_of time
 ended = refl
 
 -- "anything else fits no rule"
-no_number : time (token NAME 3 (letters "five") ∷ token MS 9 (letters "ms") ∷ rest) ≡ formed (Stop (fault 20 3 NUMBER)) 0 []
+no_number : time (token NAME 3 (letters "five") ∷ token MS 9 (letters "ms") ∷ rest) ≡ formed (Stop (fault Unfit 3 (Why.Expected NUMBER))) 0 []
 unfolding with_byte with_bytes filled time_of time
 no_number = refl
 
@@ -125,7 +129,7 @@ abbrev ranked : ℕ → Formed
 ranked n = formed (On []) (valued n) []
 
 abbrev over : Formed
-over = formed (On []) odd (fault 20 7 a_priority ∷ [])
+over = formed (On []) odd (fault Unfit 7 a_priority ∷ [])
 
 lowest : rank (letters "0") ≡ ranked 0
 unfolding with_byte with_bytes priority_of
@@ -146,11 +150,11 @@ unfolding with_byte with_bytes priority_of
 huge_priority = refl
 
 -- "NUMBER without a point": "anything else fits no rule"
-pointed : rank (letters "5.0") ≡ formed (Stop (fault 20 7 a_priority)) 0 []
+pointed : rank (letters "5.0") ≡ formed (Stop (fault Unfit 7 a_priority)) 0 []
 unfolding with_byte with_bytes priority_of
 pointed = refl
 
-high : priority (token NAME 3 (letters "high") ∷ rest) ≡ formed (Stop (fault 20 3 a_priority)) 0 []
+high : priority (token NAME 3 (letters "high") ∷ rest) ≡ formed (Stop (fault Unfit 3 a_priority)) 0 []
 unfolding priority
 high = refl
 

@@ -1,17 +1,19 @@
 -- Laws of times: sums that stop at the most are the exact ones as far as the most, the forms that the code reads are those of the definition,
 -- and a time goes on by a token at least.
-use Rattle.std.specs.Prelude.{◌+◌, ◌-◌, ◌<◌, ◌≤◌, ◌&&◌, ◌∷◌, ◌≡◌}
-use Rattle.common.specs.Words.{ℕ, zero, suc, min, arith, Bool, true, false, cond, List, [], drop, refl, sym, ap, ◌∙◌, eqb, eqb-true, leb-true}
-use Rattle.common.specs.Words.{eq-eqb, ne_eqb, le-leb, lt-leb}
+use Rattle.std.specs.Prelude.{◌+◌, ◌-◌, ◌&&◌, ◌∷◌, ◌≡◌, Result, Ok, Err, Some}
+use Rattle.common.specs.Words.{ℕ, zero, suc, min, arith, Bool, true, false, cond, List, [], drop, refl, sym, ap, true≢false, ◌∙◌, eqb}
 use Rattle.common.specs.Stores.{part}
-use Rattle.words.specs.Words.{is_name, first_name}
+use Rattle.words.specs.Words.{is_name}
 use Rattle.words.specs.Kinds.{ENDED, NUMBER, MS, SEC}
 use Rattle.tokens.specs.Tokens.{Token, from}
 use Rattle.tokens.specs.Spots.{Stands, token_of, behind}
 use Rattle.tokens.specs.declared.Spot.{Spot}
 use Rattle.tokens.specs.Laws.{either, cases}
-use Rattle.steps.specs.declared.Fault.{Fault}
-use Rattle.steps.specs.declared.Went.{Went}
+use Rattle.steps.specs.declared.faults.Fault.{Fault}
+use Rattle.steps.specs.declared.faults.Rule.TheVariants.{Unfit, NoTime}
+use Rattle.steps.specs.declared.faults.Why.{Why}
+use Rattle.words.specs.declared.kinds.Kind.{Kind}
+use Rattle.words.specs.Same.{same_kind, kind_is, kind_apart, kind_differs, name_real}
 use Rattle.steps.specs.Faults.{fault, no_fault, worse, worst}
 use Rattle.steps.specs.Steps.{Step, On, head, next, any}
 use Rattle.steps.specs.Lifted.{lift}
@@ -72,12 +74,6 @@ unfolding filled
 filled_capped n zero = refl
 filled_capped n (suc k) = rw (grown_capped n 0) (filled_capped (tenfold n 0) k)
 
--- a place more, as the code fills it
-pub filled_more : (grow : ℕ → ℕ → ℕ) (n k : ℕ) → 0 < k → filled grow (grow n 0) (k - 1) ≡ filled grow n k
-unfolding filled
-filled_more grow n zero h = absurd (omega arith)
-filled_more grow n (suc k) h = let e : suc k - 1 ≡ k = omega arith in rw e
-
 -- ## The forms that the code reads
 
 -- a number with its places, of which the code has reckoned s; the definition's own sum is exact
@@ -89,7 +85,7 @@ module _ (p : List ℕ) (n : Spot) (places : ℕ) (s : Sum) (reckoned : s ≡ co
   is_capped = reckoned ∙ counted_capped (part p n.start (n.end - n.start)) places
 
   -- with its unit
-  module _ (w : Went) where
+  module _ (w : Result ℕ Fault) where
     pub time_whole : (v : ℕ) → s.whole ≡ true → v ≡ filled grown s.ticks s.places →
         Forms p (record { went = w; value = v + 2; fault = no_fault }) (time_of (token_of p n) places (lift p w))
     unfolding time_of worst
@@ -100,71 +96,76 @@ module _ (p : List ℕ) (n : Spot) (places : ℕ) (s : Sum) (reckoned : s ≡ co
         rw t (record { went = refl; value = omega arith; fault = refl })
 
     pub time_not_whole : s.whole ≡ false →
-        Forms p (record { went = w; value = odd; fault = fault 22 n.start not_whole }) (time_of (token_of p n) places (lift p w))
+        Forms p (record { went = w; value = odd; fault = Some (fault NoTime n.start not_whole) }) (time_of (token_of p n) places (lift p w))
     unfolding time_of worst worse
     time_not_whole h =
         let t : exact.whole ≡ false = sym (ap (λ (u : Sum). u.whole) is_capped) ∙ h in
         rw t (record { went = refl; value = refl; fault = refl })
 
 -- where a rule before it has stopped
-pub stopped_before : (p : List ℕ) (form : List Token → Formed) (w : Went) (f : Fault) → w ≡ Went.Stopped f →
+pub stopped_before : (p : List ℕ) (form : List Token → Formed) (w : Result ℕ Fault) (f : Fault) → w ≡ Err f →
     Forms p (unformed w) (form_from form (lift p w))
 unfolding worst
 stopped_before p form w f e = rw e (record { went = refl; value = refl; fault = refl })
 
+-- a NUMBER is not the text's end
+pub number_there : (k : Kind) → same_kind k NUMBER ≡ true → same_kind k ENDED ≡ false
+number_there k e = kind_differs k ENDED (λ x. kind_apart NUMBER ENDED refl (sym (kind_is k NUMBER e) ∙ x))
+
 -- a token that is no NUMBER
-pub time_unfit : (p : List ℕ) (at : ℕ) (n : Spot) → Stands p at n → (n.kind ≡ NUMBER → ⊥) →
-    Forms p (unformed (Went.Stopped (fault 20 n.start NUMBER))) (time (from p at))
+pub time_unfit : (p : List ℕ) (at : ℕ) (n : Spot) → Stands p at n → same_kind n.kind NUMBER ≡ false →
+    Forms p (unformed (Err (fault Unfit n.start (Why.Expected NUMBER)))) (time (from p at))
 unfolding time worst
-time_unfit p at n here other = rw (here.tokens, ne_eqb n.kind NUMBER other) (record { went = refl; value = refl; fault = refl })
+time_unfit p at n here other = rw (here.tokens, other) (record { went = refl; value = refl; fault = refl })
 
 -- a NUMBER, and what follows it
-module _ (p : List ℕ) (at : ℕ) (n u : Spot) (here : Stands p at n) (number : n.kind ≡ NUMBER) (follows : Stands p n.end u) where
+module _ (p : List ℕ) (at : ℕ) (n u : Spot) (here : Stands p at n) (number : same_kind n.kind NUMBER ≡ true) (follows : Stands p n.end u) where
   -- the NUMBER is passed, and the unit
   first : from p at ≡ token_of p n ∷ from p n.end
   unfolding behind
-  first = rw (ne_eqb n.kind ENDED (λ e. omega arith)) at here.tokens
+  first = rw (number_there n.kind number) at here.tokens
 
-  two : first_name ≤ u.kind → from p at ≡ token_of p n ∷ token_of p u ∷ from p u.end
+  two : is_name u.kind ≡ true → from p at ≡ token_of p n ∷ token_of p u ∷ from p u.end
   unfolding behind
-  two h = first ∙ ap (λ (ts : List Token). token_of p n ∷ ts) (rw (ne_eqb u.kind ENDED (λ e. omega arith)) at follows.tokens)
+  two h = first ∙ ap (λ (ts : List Token). token_of p n ∷ ts) (rw (name_real u.kind h) at follows.tokens)
 
-  pub time_missing : u.kind < first_name → Forms p (odd_at (Went.To n.end) 22 n.start unit_missing) (time (from p at))
+  pub time_missing : is_name u.kind ≡ false → Forms p (odd_at (Ok n.end) NoTime n.start unit_missing) (time (from p at))
   unfolding time worst worse
   time_missing h =
-      rw (first, follows.tokens, eq-eqb n.kind NUMBER number, lt-leb first_name u.kind h)
+      rw (first, follows.tokens, number, h)
       (record { went = ap On follows.tokens; value = refl; fault = refl })
 
-  pub time_ms : u.kind ≡ MS → time (from p at) ≡ time_of (token_of p n) 0 (On (from p u.end))
+  pub time_ms : same_kind u.kind MS ≡ true → time (from p at) ≡ time_of (token_of p n) 0 (On (from p u.end))
   unfolding time
   time_ms e =
-      let h : first_name ≤ u.kind = omega arith in
-      rw (two h, eq-eqb n.kind NUMBER number, le-leb first_name u.kind h, eq-eqb u.kind MS e)
+      let h : is_name u.kind ≡ true = ap is_name (kind_is u.kind MS e) in
+      rw (two h, number, h, e)
 
-  pub time_sec : u.kind ≡ SEC → time (from p at) ≡ time_of (token_of p n) 3 (On (from p u.end))
+  pub time_sec : same_kind u.kind SEC ≡ true → time (from p at) ≡ time_of (token_of p n) 3 (On (from p u.end))
   unfolding time
   time_sec e =
-      let h : first_name ≤ u.kind = omega arith in
-      rw (two h, eq-eqb n.kind NUMBER number, le-leb first_name u.kind h, ne_eqb u.kind MS (λ x. omega arith), eq-eqb u.kind SEC e)
+      let k : u.kind ≡ SEC = kind_is u.kind SEC e in
+      let h : is_name u.kind ≡ true = ap is_name k in
+      rw (two h, number, h, kind_differs u.kind MS (λ x. kind_apart SEC MS refl (sym k ∙ x)), e)
 
-  pub time_unknown : first_name ≤ u.kind → (u.kind ≡ MS → ⊥) → (u.kind ≡ SEC → ⊥) →
-      Forms p (odd_at (Went.To u.end) 22 u.start unit_unknown) (time (from p at))
+  pub time_unknown : is_name u.kind ≡ true → same_kind u.kind MS ≡ false → same_kind u.kind SEC ≡ false →
+      Forms p (odd_at (Ok u.end) NoTime u.start unit_unknown) (time (from p at))
   unfolding time worst worse
   time_unknown h a b =
-      rw (two h, eq-eqb n.kind NUMBER number, le-leb first_name u.kind h, ne_eqb u.kind MS a, ne_eqb u.kind SEC b)
+      rw (two h, number, h, a, b)
       (record { went = refl; value = refl; fault = refl })
 
 -- ## How far a time goes
 
 -- a token is passed, and two
-pub one_moves : (ts : List Token) → (next ts ≡ ENDED → ⊥) → Moved 1 ts (On (drop 1 ts))
+pub one_moves : (ts : List Token) → same_kind (next ts) ENDED ≡ false → Moved 1 ts (On (drop 1 ts))
 unfolding any
-one_moves ts n = rw (ne_eqb (next ts) ENDED n) at (moved_any ts n)
+one_moves ts n = rw n at (moved_any ts n)
 
-two_moves : (ts : List Token) → (next ts ≡ ENDED → ⊥) → (next (drop 1 ts) ≡ ENDED → ⊥) → Moved 1 ts (On (drop 2 ts))
+two_moves : (ts : List Token) → same_kind (next ts) ENDED ≡ false → same_kind (next (drop 1 ts)) ENDED ≡ false → Moved 1 ts (On (drop 2 ts))
 unfolding any
-two_moves [] a b = absurd (a refl)
-two_moves (k ∷ ts) a b = rw (ne_eqb k.kind ENDED a, ne_eqb (next ts) ENDED b) at (moved_then (moved_any (k ∷ ts) a) moves_any)
+two_moves [] a b = absurd (true≢false a)
+two_moves (k ∷ ts) a b = rw (a, b) at (moved_then (moved_any (k ∷ ts) a) moves_any)
 
 -- whether it is whole or not
 time_of_went : (k : Token) (places : ℕ) (w : Step) → (time_of k places w).went ≡ w
@@ -178,11 +179,11 @@ unfolding time
 time_moves ts =
     let P : Formed → Type 0 = λ (f : Formed). Moved 1 ts f.went in
     let u = next (drop 1 ts) in
-    cases P (eqb (next ts) NUMBER)
-    (λ e. let a : next ts ≡ ENDED → ⊥ = λ x. omega (arith, eqb-true (next ts) NUMBER e, x) in
+    cases P (same_kind (next ts) NUMBER)
+    (λ e. let a = number_there (next ts) e in
     cases P (is_name u)
-    (λ f. let m = two_moves ts a (λ x. omega (arith, leb-true first_name u f, x)) in
-    either P (eqb u MS) (rw (time_of_went (head ts) 0 (On (drop 2 ts))) m)
-    (either P (eqb u SEC) (rw (time_of_went (head ts) 3 (On (drop 2 ts))) m) m))
+    (λ f. let m = two_moves ts a (name_real u f) in
+    either P (same_kind u MS) (rw (time_of_went (head ts) 0 (On (drop 2 ts))) m)
+    (either P (same_kind u SEC) (rw (time_of_went (head ts) 3 (On (drop 2 ts))) m) m))
     (λ _. one_moves ts a))
     (λ _. stopped)

@@ -1,21 +1,22 @@
 -- Laws of priorities: the form that the code reads is that of the definition, a priority goes on by a token, and none is over 255.
-use Rattle.std.specs.Prelude.{◌+◌, ◌-◌, ◌<◌, ◌≤◌, ◌≡◌}
-use Rattle.common.specs.Words.{ℕ, min, arith, true, false, List, refl, sym, ap, ◌∙◌, eqb, eqb-true, leb, leb-true, eq-eqb, ne_eqb, le-leb}
+use Rattle.std.specs.Prelude.{◌+◌, ◌-◌, ◌<◌, ◌≤◌, ◌≡◌, Ok, Err}
+use Rattle.common.specs.Words.{ℕ, min, arith, true, false, List, refl, sym, ap, ◌∙◌, leb, leb-true, le-leb}
 use Rattle.common.specs.Words.{lt-leb}
 use Rattle.common.specs.Stores.{part}
-use Rattle.words.specs.Kinds.{ENDED, NUMBER}
+use Rattle.words.specs.Kinds.{NUMBER}
 use Rattle.tokens.specs.Tokens.{Token, from}
 use Rattle.tokens.specs.Spots.{Stands, token_of, behind}
 use Rattle.tokens.specs.declared.Spot.{Spot}
 use Rattle.tokens.specs.Laws.{either, cases}
-use Rattle.steps.specs.declared.Went.{Went}
+use Rattle.steps.specs.declared.faults.Rule.TheVariants.{Unfit}
+use Rattle.words.specs.Same.{same_kind, kind_same}
 use Rattle.steps.specs.Faults.{fault, no_fault, worse, worst}
 use Rattle.steps.specs.Steps.{Step, On, Stop, head, next}
 use Rattle.steps.specs.Laws.{Moved, stopped}
 use Rattle.times.specs.declared.Sum.{Sum}
 use Rattle.times.specs.Times.{sum, with_bytes, tenfold, most, Formed, valued}
 use Rattle.times.specs.Sums.{counted, Forms, unformed, odd_at}
-use Rattle.times.specs.Laws.{exact, is_capped, one_moves}
+use Rattle.times.specs.Laws.{exact, is_capped, one_moves, number_there}
 use Rattle.times.specs.Priorities.{a_priority, most_priority, priority_of, priority, priority_from}
 
 -- ## The form that the code reads
@@ -34,18 +35,18 @@ module _ (p : List ℕ) (n : Spot) (s : Sum) (reckoned : s ≡ counted (part p n
   abbrev read : Formed
   read = priority_of (token_of p n) (On (from p n.end))
 
-  pub priority_point : s.point ≡ true → Forms p (unformed (Went.Stopped (fault 20 n.start a_priority))) read
+  pub priority_point : s.point ≡ true → Forms p (unformed (Err (fault Unfit n.start a_priority))) read
   unfolding priority_of worst
   priority_point h = let t : e.point ≡ true = sym point_same ∙ h in rw t (record { went = refl; value = refl; fault = refl })
 
-  pub priority_over : s.point ≡ false → most_priority < s.ticks → Forms p (odd_at (Went.To n.end) 20 n.start a_priority) read
+  pub priority_over : s.point ≡ false → most_priority < s.ticks → Forms p (odd_at (Ok n.end) Unfit n.start a_priority) read
   unfolding priority_of worst worse
   priority_over h l =
       let t : e.point ≡ false = sym point_same ∙ h in
       rw (t, lt-leb e.ticks most_priority (omega (arith, ticks_capped))) (record { went = refl; value = refl; fault = refl })
 
   pub priority_good : s.point ≡ false → s.ticks ≤ most_priority →
-      Forms p (record { went = Went.To n.end; value = s.ticks + 2; fault = no_fault }) read
+      Forms p (record { went = Ok n.end; value = s.ticks + 2; fault = no_fault }) read
   unfolding priority_of worst
   priority_good h l =
       let t : e.point ≡ false = sym point_same ∙ h in
@@ -54,13 +55,13 @@ module _ (p : List ℕ) (n : Spot) (s : Sum) (reckoned : s ≡ counted (part p n
 
 -- a token that is no NUMBER, and one that is
 module _ (p : List ℕ) (at : ℕ) (n : Spot) (here : Stands p at n) where
-  pub priority_unfit : (n.kind ≡ NUMBER → ⊥) → Forms p (unformed (Went.Stopped (fault 20 n.start a_priority))) (priority (from p at))
+  pub priority_unfit : same_kind n.kind NUMBER ≡ false → Forms p (unformed (Err (fault Unfit n.start a_priority))) (priority (from p at))
   unfolding priority worst
-  priority_unfit other = rw (here.tokens, ne_eqb n.kind NUMBER other) (record { went = refl; value = refl; fault = refl })
+  priority_unfit other = rw (here.tokens, other) (record { went = refl; value = refl; fault = refl })
 
   pub priority_number : n.kind ≡ NUMBER → priority (from p at) ≡ priority_of (token_of p n) (On (from p n.end))
   unfolding priority behind
-  priority_number e = rw (here.tokens, eq-eqb n.kind NUMBER e, ne_eqb n.kind ENDED (λ x. omega arith))
+  priority_number e = rw (here.tokens, kind_same n.kind NUMBER e, number_there n.kind (kind_same n.kind NUMBER e))
 
 -- ## How far a priority goes
 
@@ -69,8 +70,8 @@ unfolding priority priority_of
 priority_moves ts =
     let P : Formed → Type 0 = λ (f : Formed). Moved 1 ts f.went in
     let s = with_bytes tenfold (sum 0 0 false true) (head ts).letters in
-    cases P (eqb (next ts) NUMBER)
-    (λ e. let m = one_moves ts (λ x. omega (arith, eqb-true (next ts) NUMBER e, x)) in
+    cases P (same_kind (next ts) NUMBER)
+    (λ e. let m = one_moves ts (number_there (next ts) e) in
     either P s.point stopped (either P (leb s.ticks most_priority) m m))
     (λ _. stopped)
 
@@ -82,7 +83,7 @@ priority_low (Stop f) = omega arith
 priority_low (On ts) =
     let P : Formed → Type 0 = λ (f : Formed). f.value ≤ valued most_priority in
     let s = with_bytes tenfold (sum 0 0 false true) (head ts).letters in
-    cases P (eqb (next ts) NUMBER)
+    cases P (same_kind (next ts) NUMBER)
     (λ _. cases P s.point (λ _. omega arith)
     (λ _. cases P (leb s.ticks most_priority) (λ e. omega (arith, leb-true s.ticks most_priority e)) (λ _. omega arith)))
     (λ _. omega arith)

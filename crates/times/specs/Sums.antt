@@ -1,8 +1,10 @@
 -- What the code reckons of a time: the same with sums that stop at the most, and a form as the definitions say it.
-use Rattle.std.specs.Prelude.{◌+◌, ◌*◌, ◌≡◌}
+use Rattle.std.specs.Prelude.{◌+◌, ◌*◌, ◌≡◌, Result, Some}
 use Rattle.common.specs.Words.{ℕ, min, true, false, List, []}
+use Rattle.steps.specs.declared.faults.Fault.{Fault}
+use Rattle.steps.specs.declared.faults.Rule.{Rule}
+use Rattle.steps.specs.declared.faults.Why.{Why}
 use Rattle.tokens.specs.Tokens.{Token}
-use Rattle.steps.specs.declared.Went.{Went}
 use Rattle.steps.specs.Faults.{fault, no_fault, worst}
 use Rattle.steps.specs.Steps.{Step, On, Stop}
 use Rattle.steps.specs.Lifted.{lift}
@@ -31,8 +33,8 @@ form_from form (Stop f) = formed (Stop f) 0 []
 abbrev pub time_from : Step → Formed
 time_from = form_from time
 
-abbrev pub unformed : Went → FormedCode
+abbrev pub unformed : Result ℕ Fault → FormedCode
 unformed w = record { went = w; value = 0; fault = no_fault }
 
-abbrev pub odd_at : Went → ℕ → ℕ → ℕ → FormedCode
-odd_at w number place why = record { went = w; value = odd; fault = fault number place why }
+abbrev pub odd_at : Result ℕ Fault → Rule → ℕ → Why → FormedCode
+odd_at w rule place why = record { went = w; value = odd; fault = Some (fault rule place why) }

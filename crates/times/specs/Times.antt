@@ -4,7 +4,10 @@ use Rattle.common.specs.Words.{ℕ, zero, suc, min, Bool, true, false, cond, Lis
 use Rattle.words.specs.Words.{is_name}
 use Rattle.words.specs.Kinds.{NUMBER, MS, SEC}
 use Rattle.tokens.specs.Tokens.{Token}
-use Rattle.steps.specs.declared.Fault.{Fault}
+use Rattle.steps.specs.declared.faults.Fault.{Fault}
+use Rattle.steps.specs.declared.faults.Rule.TheVariants.{NoTime}
+use Rattle.steps.specs.declared.faults.Why.{Why}
+use Rattle.words.specs.Same.{same_kind}
 use Rattle.steps.specs.Faults.{fault}
 use Rattle.steps.specs.Steps.{Step, On, head, unfit}
 use Rattle.times.specs.declared.Sum.{Sum}
@@ -58,20 +61,20 @@ abbrev pub valued : ℕ → ℕ
 valued n = 2 + n
 
 -- what is wrong with a time: it is not whole, its unit is unknown, it has none
-abbrev pub not_whole : ℕ
-not_whole = 0x310
+abbrev pub not_whole : Why
+not_whole = Why.NotWhole
 
-abbrev pub unit_unknown : ℕ
-unit_unknown = 0x311
+abbrev pub unit_unknown : Why
+unit_unknown = Why.UnitUnknown
 
-abbrev pub unit_missing : ℕ
-unit_missing = 0x312
+abbrev pub unit_missing : Why
+unit_missing = Why.UnitMissing
 
 -- "at the NUMBER, where .. the time is not whole"; a second has three places more
 unfoldable pub time_of : Token → ℕ → Step → Formed
 time_of k places w =
     let s = with_bytes tenfold (sum 0 places false true) k.letters in
-    cond s.whole (formed w (valued (min most (filled tenfold s.ticks s.places))) []) (formed w odd (fault 22 k.start not_whole ∷ []))
+    cond s.whole (formed w (valued (min most (filled tenfold s.ticks s.places))) []) (formed w odd (fault NoTime k.start not_whole ∷ []))
 
 -- "22 while reading: at the unit, where it is not ms or sec; at the NUMBER, where no NAME follows"
 unfoldable pub time : List Token → Formed
@@ -79,10 +82,10 @@ time ts =
     let n = head ts in
     let u = head (drop 1 ts) in
     let behind = On (drop 2 ts) in
-    cond (eqb n.kind NUMBER)
+    cond (same_kind n.kind NUMBER)
     (cond (is_name u.kind)
-    (cond (eqb u.kind MS) (time_of n 0 behind)
-    (cond (eqb u.kind SEC) (time_of n 3 behind)
-    (formed behind odd (fault 22 u.start unit_unknown ∷ []))))
-    (formed (On (drop 1 ts)) odd (fault 22 n.start unit_missing ∷ [])))
-    (formed (unfit NUMBER ts) 0 [])
+    (cond (same_kind u.kind MS) (time_of n 0 behind)
+    (cond (same_kind u.kind SEC) (time_of n 3 behind)
+    (formed behind odd (fault NoTime u.start unit_unknown ∷ []))))
+    (formed (On (drop 1 ts)) odd (fault NoTime n.start unit_missing ∷ [])))
+    (formed (unfit (Why.Expected NUMBER) ts) 0 [])

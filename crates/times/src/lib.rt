@@ -11,13 +11,13 @@ ghost use Rattle.steps.specs.Lifted.{lift};
 ghost use Rattle.times.specs.Times.{most, with_digit, with_byte, filled, time_of};
 ghost use Rattle.times.specs.Sums.{grown, counted, Forms, time_from, odd_at, unformed};
 
-use steps::{Fault, NO_FAULT, Went, unfit};
+use steps::{Fault, Rule, Went, Why, is_name, unfit};
 use tokens::{Spot, spot_at};
-use words::kinds::{FIRST_NAME, MS, NUMBER, SEC};
+use words::kinds::Kind;
 
 // A number as its bytes are read: the ticks so far, how many more places behind the point are ticks, whether the point came, and whether
 // what follows those places is 0.
-#[derive(Drop)]
+#[derive(Clone, Copy)]
 pub struct Sum {
     pub ticks: usize,
     pub places: usize,
@@ -30,7 +30,7 @@ pub struct Sum {
 pub struct Formed {
     pub went: Went,
     pub value: usize,
-    pub fault: Fault,
+    pub fault: Option<Fault>,
 }
 
 // A time above this counts as this, which planning refuses.
@@ -39,83 +39,53 @@ const MOST: usize = 1_000_000_000_000;
 // The value of a number that is there and has a fault.
 pub const ODD: usize = 1;
 
-// What is wrong with a time.
-pub const NOT_WHOLE: usize = 0x310;
-
-pub const UNIT_UNKNOWN: usize = 0x311;
-
-pub const UNIT_MISSING: usize = 0x312;
-
 // One digit more.
 fn grown(n: usize, d: usize) -> usize
     requires { (n ≤ most) × (d < 256) }
     ensures { (result ≡ grown n d) × (result ≤ most) }
 {
-    let m = n * 10 + d;
-    if m < MOST { m } else { MOST }
+    (n * 10 + d).min(MOST)
 }
 
 // The value of a digit, 0 for a byte below it.
 fn digit_of(b: u8) -> usize
     ensures { (result ≡ b - 0x30) × (result < 256) }
 {
-    if b < b'0' {
-        return 0;
-    }
-    (b - b'0') as usize
+    usize::from(b.saturating_sub(b'0'))
 }
 
 fn with_digit(s: Sum, d: usize) -> Sum
     requires { (s.ticks ≤ most) × (d < 256) }
     ensures { (result ≡ with_digit grown s d) × (result.ticks ≤ most) }
 {
-    if !s.point {
-        return Sum {
+    match (s.point, s.places) {
+        (false, _) => Sum {
             ticks: grown(s.ticks, d),
-            places: s.places,
-            point: false,
-            whole: s.whole,
-        };
+            ..s
+        },
+        (true, 0) => Sum {
+            whole: s.whole && d == 0,
+            ..s
+        },
+        (true, _) => Sum {
+            ticks: grown(s.ticks, d),
+            places: s.places - 1,
+            ..s
+        },
     }
-    if s.places == 0 {
-        return Sum {
-            ticks: s.ticks,
-            places: 0,
-            point: true,
-            whole: both(s.whole, d == 0),
-        };
-    }
-    Sum {
-        ticks: grown(s.ticks, d),
-        places: s.places - 1,
-        point: true,
-        whole: s.whole,
-    }
-}
-
-fn both(a: bool, b: bool) -> bool
-    ensures { result ≡ (a && b) }
-{
-    if a { b } else { false }
 }
 
 // One byte more: underscores say nothing.
+#[tactic(auto, unfolding(crate::specs::Times::with_byte))]
 fn with_byte(s: Sum, b: u8) -> Sum
     requires { s.ticks ≤ most }
     ensures { (result ≡ with_byte grown s b) × (result.ticks ≤ most) }
 {
-    if b == b'_' {
-        return s;
+    match b {
+        b'_' => s,
+        b'.' => Sum { point: true, ..s },
+        _ => with_digit(s, digit_of(b)),
     }
-    if b == b'.' {
-        return Sum {
-            ticks: s.ticks,
-            places: s.places,
-            point: true,
-            whole: s.whole,
-        };
-    }
-    with_digit(s, digit_of(b))
 }
 
 // The number from `start` to `end`, with so many places behind its point.
@@ -129,8 +99,9 @@ fn sum_of(text: &[u8], start: usize, end: usize, places: usize) -> Sum
         point: false,
         whole: true,
     };
-    for i in start..end {
-        s = with_byte(s, text[i]);
+    let number = &text[start..end];
+    for byte in number {
+        s = with_byte(s, *byte);
     }
     s
 }
@@ -141,10 +112,8 @@ fn filled(n: usize, places: usize) -> usize
     ensures { (result ≡ filled grown n places) × (result ≤ most) }
 {
     let mut m = n;
-    let mut left = places;
-    while 0 < left {
+    for _place in 0..places {
         m = grown(m, 0);
-        left -= 1;
     }
     m
 }
@@ -159,17 +128,17 @@ fn time_of(text: &[u8], number: Spot, places: usize, went: Went) -> Formed
         return Formed {
             went,
             value: filled(s.ticks, s.places) + 2,
-            fault: NO_FAULT,
+            fault: None,
         };
     }
     Formed {
         went,
         value: ODD,
-        fault: Fault {
-            number: 22,
+        fault: Some(Fault {
+            rule: Rule::NoTime,
             place: number.start,
-            why: NOT_WHOLE,
-        },
+            why: Why::NotWhole,
+        }),
     }
 }
 
@@ -177,24 +146,24 @@ fn time_of(text: &[u8], number: Spot, places: usize, went: Went) -> Formed
 pub fn time(text: &[u8], went: Went) -> Formed
     ensures { Forms text.now result (time_from (lift text.now went)) }
 {
-    let Went::To(at) = went else {
+    let Ok(at) = went else {
         return unformed(went);
     };
     let number = spot_at(text, at);
-    if number.kind != NUMBER {
-        return unformed(unfit(number, NUMBER));
+    if number.kind != Kind::Number {
+        return unformed(unfit(number, Why::Expected(Kind::Number)));
     }
     let unit = spot_at(text, number.end);
-    if unit.kind < FIRST_NAME {
-        return odd(Went::To(number.end), 22, number.start, UNIT_MISSING);
+    if !is_name(unit.kind) {
+        return odd(Ok(number.end), Rule::NoTime, number.start, Why::UnitMissing);
     }
-    if unit.kind == MS {
-        return time_of(text, number, 0, Went::To(unit.end));
+    if unit.kind == Kind::Ms {
+        return time_of(text, number, 0, Ok(unit.end));
     }
-    if unit.kind == SEC {
-        return time_of(text, number, 3, Went::To(unit.end));
+    if unit.kind == Kind::Sec {
+        return time_of(text, number, 3, Ok(unit.end));
     }
-    odd(Went::To(unit.end), 22, unit.start, UNIT_UNKNOWN)
+    odd(Ok(unit.end), Rule::NoTime, unit.start, Why::UnitUnknown)
 }
 
 // A form that the text does not have.
@@ -204,17 +173,17 @@ fn unformed(went: Went) -> Formed
     Formed {
         went,
         value: 0,
-        fault: NO_FAULT,
+        fault: None,
     }
 }
 
 // A number that is there and has a fault at a place.
-fn odd(went: Went, number: usize, place: usize, why: usize) -> Formed
-    ensures { result ≡ odd_at went number place why }
+fn odd(went: Went, rule: Rule, place: usize, why: Why) -> Formed
+    ensures { result ≡ odd_at went rule place why }
 {
     Formed {
         went,
         value: ODD,
-        fault: Fault { number, place, why },
+        fault: Some(Fault { rule, place, why }),
     }
 }

@@ -9,14 +9,11 @@ ghost use Rattle.times.specs.Sums.{Forms};
 ghost use Rattle.times.specs.Priorities.{priority_of, priority_from};
 
 use crate::{Formed, odd, sum_of, unformed};
-use steps::{NO_FAULT, Went, unfit};
+use steps::{Rule, Went, Why, unfit};
 use tokens::{Spot, spot_at};
-use words::kinds::NUMBER;
+use words::kinds::Kind;
 
 const MOST: usize = 255;
-
-// What was expected of a priority.
-pub const A_PRIORITY: usize = 0x313;
 
 // A number as a priority: one with a point fits no rule, one that is too great is noted.
 fn priority_of(text: &[u8], number: Spot) -> Formed
@@ -26,15 +23,15 @@ fn priority_of(text: &[u8], number: Spot) -> Formed
 {
     let s = sum_of(text, number.start, number.end, 0);
     if s.point {
-        return unformed(unfit(number, A_PRIORITY));
+        return unformed(unfit(number, Why::APriority));
     }
     if MOST < s.ticks {
-        return odd(Went::To(number.end), 20, number.start, A_PRIORITY);
+        return odd(Ok(number.end), Rule::Unfit, number.start, Why::APriority);
     }
     Formed {
-        went: Went::To(number.end),
+        went: Ok(number.end),
         value: s.ticks + 2,
-        fault: NO_FAULT,
+        fault: None,
     }
 }
 
@@ -42,12 +39,12 @@ fn priority_of(text: &[u8], number: Spot) -> Formed
 pub fn priority(text: &[u8], went: Went) -> Formed
     ensures { Forms text.now result (priority_from (lift text.now went)) }
 {
-    let Went::To(at) = went else {
+    let Ok(at) = went else {
         return unformed(went);
     };
     let number = spot_at(text, at);
-    if number.kind != NUMBER {
-        return unformed(unfit(number, A_PRIORITY));
+    if number.kind != Kind::Number {
+        return unformed(unfit(number, Why::APriority));
     }
     priority_of(text, number)
 }

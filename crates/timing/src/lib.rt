@@ -6,21 +6,12 @@
 ghost use Rattle.std.specs.Prelude.{◌≡◌, ◌≤◌};
 ghost use Rattle.calendar.specs.Calendar.{tick};
 ghost use Rattle.plan.specs.Limits.{longest_period, last_tick};
-ghost use Rattle.plan.specs.Refusals.{unnamed};
 ghost use Rattle.plan.specs.Verdicts.{verdict};
-ghost use Rattle.plan.specs.declared.refusal.Verdict.{Verdict};
 ghost use Rattle.timing.specs.Timing.{ending, running_lines, wanting_lines};
 
 use calendar::{Job, Tick};
 use plan::Plan;
-use plan::refusal::{Refusal, Rule, Verdict};
-
-// None of the running calls' refusals names a row.
-pub fn refused(rule: Rule) -> Verdict
-    ensures { result ≡ Verdict.Refused (unnamed rule) }
-{
-    Verdict::Refused(Refusal { rule, row: 0 })
-}
+use plan::refusal::{Refusal, Rule};
 
 // The tick that lies `span` ticks behind the release of the job that was released last.
 fn end_of_job(period: u64, span: u64, at: Tick) -> Tick
@@ -32,43 +23,49 @@ fn end_of_job(period: u64, span: u64, at: Tick) -> Tick
 }
 
 // Rules 11, 10, 12, 13 of a sender: `before` is the state's tick, and `unsent` the job after the last one that it sent.
-pub fn judge_running(period: u64, deadline: u64, at: Tick, before: Tick, unsent: Job) -> Verdict
+pub fn judge_running(
+    period: u64,
+    deadline: u64,
+    at: Tick,
+    before: Tick,
+    unsent: Job,
+) -> Result<(), Refusal>
     requires { (1 ≤ period) × (deadline ≤ longest_period) }
     ensures { result ≡ verdict (running_lines before.0 unsent.0 period deadline at.0) }
 {
     if Plan::LAST_TICK < at.0 {
-        return refused(Rule::PastLastTick);
+        return Err(Refusal::unnamed(Rule::PastLastTick));
     }
     let end = end_of_job(period, deadline, at);
     if Plan::LAST_TICK < end.0 {
-        return refused(Rule::PastLastTick);
+        return Err(Refusal::unnamed(Rule::PastLastTick));
     }
-    if at.0 < before.0 {
-        return refused(Rule::TickBeforeState);
+    if at < before {
+        return Err(Refusal::unnamed(Rule::TickBeforeState));
     }
-    if end.0 <= at.0 {
-        return refused(Rule::JobOver);
+    if end <= at {
+        return Err(Refusal::unnamed(Rule::JobOver));
     }
-    if at.0 / period < unsent.0 {
-        return refused(Rule::SentAlready);
+    if calendar::job_at(period, at) < unsent {
+        return Err(Refusal::unnamed(Rule::SentAlready));
     }
-    Verdict::Clear
+    Ok(())
 }
 
 // Rules 11, 10, 12 of a receiver, whose job wants its messages for so many ticks: `before` is the state's tick.
-pub fn judge_wanting(period: u64, wanted: u64, at: Tick, before: Tick) -> Verdict
+pub fn judge_wanting(period: u64, wanted: u64, at: Tick, before: Tick) -> Result<(), Refusal>
     requires { (1 ≤ period) × (wanted ≤ longest_period) }
     ensures { result ≡ verdict (wanting_lines before.0 period wanted at.0) }
 {
     if Plan::LAST_TICK < at.0 {
-        return refused(Rule::PastLastTick);
+        return Err(Refusal::unnamed(Rule::PastLastTick));
     }
-    if at.0 < before.0 {
-        return refused(Rule::TickBeforeState);
+    if at < before {
+        return Err(Refusal::unnamed(Rule::TickBeforeState));
     }
     let until = end_of_job(period, wanted, at);
-    if until.0 <= at.0 {
-        return refused(Rule::JobOver);
+    if until <= at {
+        return Err(Refusal::unnamed(Rule::JobOver));
     }
-    Verdict::Clear
+    Ok(())
 }

@@ -11,7 +11,9 @@ use Rattle.tokens.specs.Spots.{Stands, behind}
 use Rattle.tokens.specs.Tokens.{Token, token, sort_of, run, blank, letter, digit, underscore, shape, word_shape, number_width, one_of, sign_shape}
 use Rattle.tokens.specs.Tokens.{shape_of, none, tokens_by, from}
 use Rattle.words.specs.Words.{kind_of}
-use Rattle.words.specs.Found.{kind_from}
+use Rattle.words.specs.Found.{kind_there}
+use Rattle.words.specs.Same.{same_kind, kind_apart}
+use Rattle.words.specs.declared.kinds.Kind.{Kind}
 use Rattle.words.specs.Kinds.{ENDED, NUMBER, BECOMES, ADDS, ARROW, DELAYING, BOTH_WAYS, SCOPE, DOTS}
 
 -- what holds of both holds of the one that a test picks
@@ -73,8 +75,8 @@ sign_width : (a b c : ℕ) → 0 < (sign_shape a b c).width
 unfolding sign_shape
 sign_width a b c =
     let P : Shape → Type 0 = λ (s : Shape). 0 < s.width in
-    let one : (t : Bool) (k w : ℕ) → 0 < w → P (one_of t k w a) =
-    λ (t : Bool) (k w : ℕ) (h : 0 < w). either P t {x = shape k w} {y = shape (a % 256) 1} h (omega arith) in
+    let one : (t : Bool) (k : Kind) (w : ℕ) → 0 < w → P (one_of t k w a) =
+    λ (t : Bool) (k : Kind) (w : ℕ) (h : 0 < w). either P t {x = shape k w} {y = shape (Kind.Sign (a % 256)) 1} h (omega arith) in
     either P (eqb a 0x3d) (one (eqb b 0x3e) BECOMES 2 (omega arith))
     (either P (eqb a 0x2b) (one (eqb b 0x3d && eqb c 0x3e) ADDS 3 (omega arith))
     (either P (eqb a 0x2d) (either P (eqb b 0x3e && eqb c 0x3e) {x = shape DELAYING 3} (omega arith) (one (eqb b 0x3e) ARROW 2 (omega arith)))
@@ -172,8 +174,9 @@ sign_fits bs h =
     let b = get_or bs 1 0 in
     let c = get_or bs 2 0 in
     let P : Shape → Type 0 = λ (s : Shape). s.width ≤ length bs in
-    let one : (t : Bool) (k w : ℕ) → (t ≡ true → w ≤ length bs) → P (one_of t k w a) =
-    λ (t : Bool) (k w : ℕ) (f : t ≡ true → w ≤ length bs). cases P t {x = shape k w} {y = shape (a % 256) 1} f (λ _. omega arith) in
+    let one : (t : Bool) (k : Kind) (w : ℕ) → (t ≡ true → w ≤ length bs) → P (one_of t k w a) =
+    λ (t : Bool) (k : Kind) (w : ℕ) (f : t ≡ true → w ≤ length bs). cases P t {x = shape k w} {y = shape (Kind.Sign (a % 256)) 1} f
+    (λ _. omega arith) in
     let two : (x : ℕ) → eqb b (suc x) ≡ true → 2 ≤ length bs = λ (x : ℕ) (e : eqb b (suc x) ≡ true). byte_in bs 1 x e in
     let three : (x : ℕ) → (eqb b (suc x) && eqb c 0x3e) ≡ true → 3 ≤ length bs =
     λ (x : ℕ) (e : (eqb b (suc x) && eqb c 0x3e) ≡ true). byte_in bs 2 0x3d (and_right (eqb b (suc x)) _ e) in
@@ -185,26 +188,30 @@ sign_fits bs h =
     (one (eqb a 0x2e && eqb b 0x2e) DOTS 2 (λ e. two 0x2d (and_right (eqb a 0x2e) _ e)))))))
 
 -- a token's kind is not that of the text's end
-sign_real : (a b c : ℕ) → (sign_shape a b c).kind ≡ ENDED → ⊥
+abbrev Real : Shape → Type 0
+Real s = same_kind s.kind ENDED ≡ false
+
+sign_real : (a b c : ℕ) → Real (sign_shape a b c)
 unfolding sign_shape
 sign_real a b c =
-    let P : Shape → Type 0 = λ (s : Shape). s.kind ≡ ENDED → ⊥ in
-    let one : (t : Bool) (k w : ℕ) → (k ≡ ENDED → ⊥) → P (one_of t k w a) =
-    λ (t : Bool) (k w : ℕ) (h : k ≡ ENDED → ⊥). either P t {x = shape k w} {y = shape (a % 256) 1} h (λ e. omega arith) in
-    either P (eqb a 0x3d) (one (eqb b 0x3e) BECOMES 2 (λ e. omega arith))
-    (either P (eqb a 0x2b) (one (eqb b 0x3d && eqb c 0x3e) ADDS 3 (λ e. omega arith))
-    (either P (eqb a 0x2d) (either P (eqb b 0x3e && eqb c 0x3e) {x = shape DELAYING 3}
-    (λ e. omega arith) (one (eqb b 0x3e) ARROW 2 (λ e. omega arith)))
-    (either P (eqb a 0x3c) (one (eqb b 0x2d && eqb c 0x3e) BOTH_WAYS 3 (λ e. omega arith))
-    (either P (eqb a 0x3a) (one (eqb b 0x3a) SCOPE 2 (λ e. omega arith)) (one (eqb a 0x2e && eqb b 0x2e) DOTS 2 (λ e. omega arith))))))
+    let one : (t : Bool) (k : Kind) (w : ℕ) → same_kind k ENDED ≡ false → Real (one_of t k w a) =
+    λ (t : Bool) (k : Kind) (w : ℕ) (h : same_kind k ENDED ≡ false).
+    either Real t {x = shape k w} {y = shape (Kind.Sign (a % 256)) 1} h (ne_eqb (0x300 + a % 256) 0x100 (λ e. omega arith)) in
+    either Real (eqb a 0x3d) (one (eqb b 0x3e) BECOMES 2 refl)
+    (either Real (eqb a 0x2b) (one (eqb b 0x3d && eqb c 0x3e) ADDS 3 refl)
+    (either Real (eqb a 0x2d) (either Real (eqb b 0x3e && eqb c 0x3e) {x = shape DELAYING 3} refl (one (eqb b 0x3e) ARROW 2 refl))
+    (either Real (eqb a 0x3c) (one (eqb b 0x2d && eqb c 0x3e) BOTH_WAYS 3 refl)
+    (either Real (eqb a 0x3a) (one (eqb b 0x3a) SCOPE 2 refl) (one (eqb a 0x2e && eqb b 0x2e) DOTS 2 refl)))))
+
+pub shape_there : (bs : List ℕ) → Real (shape_of bs)
+unfolding shape_of word_shape
+shape_there bs =
+    either Real (eqb (sort_of (get_or bs 0 0)) letter) {x = word_shape bs} (kind_there (take (run letter digit bs) bs))
+    (either Real (eqb (sort_of (get_or bs 0 0)) digit) {x = shape NUMBER (number_width bs)}
+    refl (sign_real (get_or bs 0 0) (get_or bs 1 0) (get_or bs 2 0)))
 
 pub shape_real : (bs : List ℕ) → (shape_of bs).kind ≡ ENDED → ⊥
-unfolding shape_of word_shape
-shape_real bs =
-    let P : Shape → Type 0 = λ (s : Shape). s.kind ≡ ENDED → ⊥ in
-    either P (eqb (sort_of (get_or bs 0 0)) letter) {x = word_shape bs} (λ e. omega (arith, kind_from (take (run letter digit bs) bs)))
-    (either P (eqb (sort_of (get_or bs 0 0)) digit) {x = shape NUMBER (number_width bs)}
-    (λ e. omega arith) (sign_real (get_or bs 0 0) (get_or bs 1 0) (get_or bs 2 0)))
+shape_real bs = kind_apart (shape_of bs).kind ENDED (shape_there bs)
 
 -- a token lies within the text
 pub shape_fits : (bs : List ℕ) → 0 < length bs → (shape_of bs).width ≤ length bs
@@ -300,7 +307,7 @@ module _ (p : List ℕ) (i : ℕ) where
   stands_token at s e h g =
       let z : at + s.width - at ≡ s.width = omega arith in
       record {
-        tokens = rw (z, g, ne_eqb (shape_of (drop at p)).kind ENDED (shape_real (drop at p)))
+        tokens = rw (z, g, shape_there (drop at p))
             (from_token at (shape_of (drop at p)).width (sym e) h refl);
         forward = omega arith;
         empty = λ k. absurd (shape_real (drop at p) (ap (λ (x : Shape). x.kind) (sym g) ∙ k));

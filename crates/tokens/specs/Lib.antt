@@ -2,3 +2,4 @@
 pub mod Tokens
 pub mod Spots
 pub mod Laws
+pub mod Sorts

@@ -1,9 +1,10 @@
 -- A token as the code knows it: its kind, its place and its end.
 use Rattle.std.specs.Prelude.{◌-◌, ◌<◌, ◌≤◌, ◌∷◌, ◌≡◌}
-use Rattle.common.specs.Words.{ℕ, cond, List, [], eqb, length}
+use Rattle.common.specs.Words.{ℕ, cond, List, [], length}
 use Rattle.common.specs.Stores.{part}
 use Rattle.tokens.specs.declared.Spot.{Spot}
 use Rattle.words.specs.Kinds.{ENDED}
+use Rattle.words.specs.Same.{same_kind}
 use Rattle.tokens.specs.Tokens.{Token, token, from}
 
 -- the token that it is
@@ -12,7 +13,7 @@ token_of p s = token s.kind s.start (part p s.start (s.end - s.start))
 
 -- the tokens from it on
 unfoldable pub behind : List ℕ → Spot → List Token
-behind p s = cond (eqb s.kind ENDED) [] (from p s.end)
+behind p s = cond (same_kind s.kind ENDED) [] (from p s.end)
 
 -- what the code says of the token that stands first from a place on
 pub record Stands (p : List ℕ) (at : ℕ) (s : Spot) : Type 0 where

@@ -1,17 +1,19 @@
 -- AADL.md, section 1: the tokens of a plain text. "At each place the longest token counts".
 use Rattle.std.specs.Prelude.{◌+◌, ◌%◌, ◌&&◌, ◌∷◌}
 use Rattle.common.specs.Words.{ℕ, zero, suc, Bool, true, false, cond, List, [], eqb, ltb, leb, length, take, drop, get_or}
+use Rattle.tokens.specs.declared.Sort.{Sort}
 use Rattle.tokens.specs.declared.Shape.{Shape}
+use Rattle.words.specs.declared.kinds.Kind.{Kind}
 use Rattle.words.specs.Words.{kind_of}
 use Rattle.words.specs.Kinds.{ENDED, NUMBER, BECOMES, ADDS, ARROW, DELAYING, BOTH_WAYS, SCOPE, DOTS}
 
 -- a token: its kind, its place, "the number of bytes before a token's first byte", and its own bytes
 pub record Token : Type 0 where
-  pub kind : ℕ
+  pub kind : Kind
   pub start : ℕ
   pub letters : List ℕ
 
-abbrev pub token : ℕ → ℕ → List ℕ → Token
+abbrev pub token : Kind → ℕ → List ℕ → Token
 token k s l = record { kind = k; start = s; letters = l }
 
 -- the sorts of bytes, so numbered that each run of bytes is of the sorts from one to another
@@ -29,6 +31,14 @@ underscore = 3
 
 abbrev pub digit : ℕ
 digit = 4
+
+-- the sorts as the code names them
+abbrev pub rank : Sort → ℕ
+rank Sort.Blank = blank
+rank Sort.Sign = sign
+rank Sort.Letter = letter
+rank Sort.Underscore = underscore
+rank Sort.Digit = digit
 
 -- "Blanks are space, tab, LF, VT, FF and CR"
 unfoldable pub sort_of : ℕ → ℕ
@@ -48,7 +58,7 @@ run low high [] = 0
 run low high (b ∷ bs) = let more = suc (run low high bs) in cond (leb low (sort_of b) && leb (sort_of b) high) more 0
 
 -- a token's kind, and how many bytes it has
-abbrev pub shape : ℕ → ℕ → Shape
+abbrev pub shape : Kind → ℕ → Shape
 shape k w = record { kind = k; width = w }
 
 -- "word: a letter (ASCII), then letters, digits and underscores"
@@ -62,8 +72,8 @@ number_width bs =
     cond (eqb (get_or bs n 0) 0x2e && eqb (sort_of (get_or bs (n + 1) 0)) digit) (n + 1 + run underscore digit (drop (n + 1) bs)) n
 
 -- the longer sign, where its other bytes follow; "any other byte by itself": its own kind (a byte is below 256)
-abbrev pub one_of : Bool → ℕ → ℕ → ℕ → Shape
-one_of follow kind width byte = cond follow (shape kind width) (shape (byte % 256) 1)
+abbrev pub one_of : Bool → Kind → ℕ → ℕ → Shape
+one_of follow kind width byte = cond follow (shape kind width) (shape (Kind.Sign (byte % 256)) 1)
 
 -- "`=>` `+=>` `->` `->>` `<->` `::` `..`", by the first bytes
 unfoldable pub sign_shape : ℕ → ℕ → ℕ → Shape

@@ -1,18 +1,18 @@
 // Tokens of a plain text, which the crate `plain` makes: what stands at a place, whatever the text.
 #![tactic(auto)]
 
-ghost use Rattle.std.specs.Prelude.{◌≡◌, ◌+◌, ◌≤◌, ◌<◌, ◌&&◌};
+ghost use Rattle.std.specs.Prelude.{◌≡◌, ◌+◌, ◌≤◌, ◌<◌};
 ghost use Rattle.common.specs.Words.{length, drop, get_or};
-ghost use Rattle.tokens.specs.Tokens.{sort_of, run, number_width, one_of, sign_shape, shape_of};
+ghost use Rattle.tokens.specs.Tokens.{rank, sort_of, run, number_width, sign_shape, shape_of};
 ghost use Rattle.tokens.specs.Spots.{Stands};
 
-use words::kinds::{ADDS, ARROW, BECOMES, BOTH_WAYS, DELAYING, DOTS, ENDED, NUMBER, SCOPE};
-use words::{byte_at, wide, word_kind};
+use words::kinds::Kind;
+use words::{byte_at, word_kind};
 
 // The token at a place: its kind, the place of its first byte and the place behind its last.
 #[derive(Clone, Copy)]
 pub struct Spot {
-    pub kind: usize,
+    pub kind: Kind,
     pub start: usize,
     pub end: usize,
 }
@@ -20,46 +20,45 @@ pub struct Spot {
 // A token's kind, and how many bytes it has.
 #[derive(Clone, Copy)]
 pub struct Shape {
-    pub kind: usize,
+    pub kind: Kind,
     pub width: usize,
 }
 
-// The sorts of bytes, so numbered that each run of bytes is of the sorts from one to another.
-const BLANK: usize = 0;
+// The sorts of bytes, in such an order that each run of bytes is of the sorts from one to another.
+#[derive(Clone, Copy, PartialEq, Eq, PartialOrd, Ord)]
+enum Sort {
+    Blank,
+    Sign,
+    Letter,
+    Underscore,
+    Digit,
+}
 
-const LETTER: usize = 2;
-
-const UNDERSCORE: usize = 3;
-
-const DIGIT: usize = 4;
-
-// The sort of each byte, as a digit.
-const SORTS: [u8; 256] = *b"\
-    11111111100000111111111111111111011111111111111144444444441111111111111111111111111111111111111312222222222222222222222222211111\
-    11111111111111111111111111111111111111111111111111111111111111111111111111111111111111111111111111111111111111111111111111111111";
-
-fn sort_of(b: u8) -> usize
-    ensures { result ≡ sort_of b }
+// Capital letters do not stand in a plain text but for an annex, a sign.
+#[tactic(auto, using(common::specs::Tests::tests), unfolding(crate::specs::Tokens::sort_of))]
+fn sort_of(b: u8) -> Sort
+    ensures { rank result ≡ sort_of b }
 {
-    wide(SORTS[wide(b)]) - 48
+    match b {
+        b'\t'..=b'\r' | b' ' => Sort::Blank,
+        b'a'..=b'z' => Sort::Letter,
+        b'_' => Sort::Underscore,
+        b'0'..=b'9' => Sort::Digit,
+        _ => Sort::Sign,
+    }
 }
 
 // The end of the run of bytes whose sorts lie from `low` to `high`.
-fn past(text: &[u8], at: usize, low: usize, high: usize) -> usize
-    ensures { result ≡ at + run low high (drop at text.now) }
+fn past(text: &[u8], at: usize, low: Sort, high: Sort) -> usize
+    ensures { result ≡ at + run (rank low) (rank high) (drop at text.now) }
 {
-    let mut i = at;
-    while i < text.len() {
+    for i in at..text.len() {
         let sort = sort_of(text[i]);
-        if sort < low {
+        if sort < low || high < sort {
             return i;
         }
-        if high < sort {
-            return i;
-        }
-        i += 1;
     }
-    i
+    at.max(text.len())
 }
 
 // The end of the number that begins at a place.
@@ -67,61 +66,32 @@ fn number_end(text: &[u8], at: usize) -> usize
     requires { at ≤ length text.now }
     ensures { result ≡ at + number_width (drop at text.now) }
 {
-    let end = past(text, at, UNDERSCORE, DIGIT);
+    let end = past(text, at, Sort::Underscore, Sort::Digit);
     if byte_at(text, end) != b'.' {
         return end;
     }
-    if sort_of(byte_at(text, end + 1)) != DIGIT {
+    if sort_of(byte_at(text, end + 1)) != Sort::Digit {
         return end;
     }
-    past(text, end + 1, UNDERSCORE, DIGIT)
+    past(text, end + 1, Sort::Underscore, Sort::Digit)
 }
 
-// The longer sign, where its other bytes follow; else its first byte by itself.
-fn one_of(follow: bool, kind: usize, width: usize, byte: u8) -> Shape
-    ensures { result ≡ one_of follow kind width byte }
-{
-    if follow {
-        return Shape { kind, width };
-    }
-    Shape {
-        kind: byte as usize,
-        width: 1,
-    }
-}
-
-fn both(a: bool, b: bool) -> bool
-    ensures { result ≡ (a && b) }
-{
-    if a { b } else { false }
-}
-
-// A sign by its first bytes.
+// A sign by its first bytes: the longest that they begin, or the first byte by itself.
+#[tactic(auto, using(common::specs::Tests::tests), unfolding(crate::specs::Tokens::sign_shape))]
 fn sign_shape(a: u8, b: u8, c: u8) -> Shape
     ensures { result ≡ sign_shape a b c }
 {
-    if a == b'=' {
-        return one_of(b == b'>', BECOMES, 2, a);
-    }
-    if a == b'+' {
-        return one_of(both(b == b'=', c == b'>'), ADDS, 3, a);
-    }
-    if a == b'-' {
-        if both(b == b'>', c == b'>') {
-            return Shape {
-                kind: DELAYING,
-                width: 3,
-            };
-        }
-        return one_of(b == b'>', ARROW, 2, a);
-    }
-    if a == b'<' {
-        return one_of(both(b == b'-', c == b'>'), BOTH_WAYS, 3, a);
-    }
-    if a == b':' {
-        return one_of(b == b':', SCOPE, 2, a);
-    }
-    one_of(both(a == b'.', b == b'.'), DOTS, 2, a)
+    let (kind, width) = match (a, b, c) {
+        (b'=', b'>', _) => (Kind::Becomes, 2),
+        (b'+', b'=', b'>') => (Kind::Adds, 3),
+        (b'-', b'>', b'>') => (Kind::Delaying, 3),
+        (b'-', b'>', _) => (Kind::Arrow, 2),
+        (b'<', b'-', b'>') => (Kind::BothWays, 3),
+        (b':', b':', _) => (Kind::Scope, 2),
+        (b'.', b'.', _) => (Kind::Dots, 2),
+        _ => (Kind::Sign(a), 1),
+    };
+    Shape { kind, width }
 }
 
 // The token that begins at a place of the text.
@@ -129,31 +99,30 @@ fn shape_at(text: &[u8], at: usize) -> Shape
     requires { at < length text.now }
     ensures { result ≡ shape_of (drop at text.now) }
 {
-    let sort = sort_of(text[at]);
-    if sort == LETTER {
-        let end = past(text, at, LETTER, DIGIT);
-        return Shape {
-            kind: word_kind(text, at, end),
-            width: end - at,
-        };
-    }
-    if sort == DIGIT {
-        return Shape {
-            kind: NUMBER,
+    match sort_of(text[at]) {
+        Sort::Letter => {
+            let end = past(text, at, Sort::Letter, Sort::Digit);
+            Shape {
+                kind: word_kind(text, at, end),
+                width: end - at,
+            }
+        }
+        Sort::Digit => Shape {
+            kind: Kind::Number,
             width: number_end(text, at) - at,
-        };
+        },
+        _ => sign_shape(text[at], byte_at(text, at + 1), byte_at(text, at + 2)),
     }
-    sign_shape(text[at], byte_at(text, at + 1), byte_at(text, at + 2))
 }
 
-// The first token from a place on. At the text's end it is ENDED.
+// The first token from a place on. At the text's end it is `Ended`.
 pub fn spot_at(text: &[u8], at: usize) -> Spot
     ensures { Stands text.now at result }
 {
-    let start = past(text, at, BLANK, BLANK);
+    let start = past(text, at, Sort::Blank, Sort::Blank);
     if text.len() <= start {
         return Spot {
-            kind: ENDED,
+            kind: Kind::Ended,
             start,
             end: start,
         };

@@ -8,10 +8,10 @@ mod table; // table.rt: the lines on a table and its plan
 mod text; // text.rt: words and numbers
 
 use plan::Plan;
-use run::{fresh_run, run_after};
+use run::{change_run, fresh_run};
 use std::io::Stdout;
-use table::{plan_after, table_after};
-use text::{letter, number};
+use table::{change_plan, change_table};
+use text::Line;
 
 // The longest text that is read; what is longer is cut.
 const TEXT: usize = 131_072;
@@ -19,48 +19,33 @@ const TEXT: usize = 131_072;
 // The most memory that is lent.
 const BUFFER: usize = 65_536;
 
-// How much of the buffer is lent after a line: `memory LENGTH BYTE` asks for so many bytes, all of them BYTE.
-fn lent_after(before: usize, line: &[u8], buffer: &mut [u8]) -> usize {
-    if letter(line, 0) != b'm' {
-        return before;
-    }
-    let byte = (number(line, 1) % 256) as u8;
-    for k in 0..buffer.len() {
-        buffer[k] = byte;
-    }
-    number(line, 0) as usize
-}
-
-// Plays each line of the text that has its end.
+// Plays each line of the text that has its end. `memory LENGTH BYTE` asks for so many bytes of the buffer to be lent, all of them BYTE.
 fn play(stdout: Stdout, text: &[u8], buffer: &mut [u8]) {
     let mut table = Plan::zeros();
     let mut plan = Plan::zeros();
     let mut run = fresh_run();
-    let mut lent: usize = 0;
-    let mut at: usize = 0;
-    let mut end: usize = 0;
-    while end < text.len() {
-        if text[end] != b'\n' {
-            end += 1;
+    let mut lent = 0;
+    for piece in text.split_inclusive(|b| *b == b'\n') {
+        let Some((&b'\n', bytes)) = piece.split_last() else {
             continue;
+        };
+        let line = Line(bytes);
+        if line.word() == b'm' {
+            buffer.fill((line.number(1) % 256) as u8);
+            let asked = line.number(0) as usize;
+            if asked <= buffer.len() {
+                lent = asked;
+            }
         }
-        let line = &text[at..end];
-        end += 1;
-        at = end;
-        table = table_after(table, line);
-        plan = plan_after(stdout, plan, table, line);
-        let asked = lent_after(lent, line, buffer);
-        if buffer.len() < asked {
-            continue;
-        }
-        lent = asked;
-        run = run_after(stdout, run, plan, line, &mut buffer[..lent]);
+        change_table(&mut table, line);
+        change_plan(stdout, &mut plan, &table, line);
+        change_run(stdout, &mut run, &plan, line, &mut buffer[..lent]);
     }
 }
 
 fn main(rt: HostRuntime) {
     let mut text = [0u8; TEXT];
     let mut buffer = [0u8; BUFFER];
-    let n = blocks::read_text(rt.stdin(), &mut text);
-    play(rt.stdout(), &text[..n], &mut buffer);
+    let text = blocks::read_text(rt.stdin(), &mut text);
+    play(rt.stdout(), text, &mut buffer);
 }

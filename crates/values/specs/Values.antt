@@ -1,4 +1,8 @@
 -- AADL.md, section 2: values of properties, associations and blocks of them, as they are skipped.
+use Rattle.steps.specs.declared.faults.Rule.TheVariants.{TooDeep}
+use Rattle.steps.specs.declared.faults.Why.{Why}
+use Rattle.words.specs.Same.{same_kind}
+use Rattle.words.specs.declared.kinds.Kind.{Kind}
 use Rattle.common.specs.Words.{ℕ, zero, suc, Bool, true, false, cond, List, eqb}
 use Rattle.words.specs.Kinds.{ENDED, END, BECOMES, ADDS, SCOPE, COMMA, SEMICOLON, OPEN_PAREN, CLOSE_PAREN, OPEN_BRACKET, CLOSE_BRACKET, OPEN_BRACE}
 use Rattle.words.specs.Kinds.{CLOSE_BRACE}
@@ -6,25 +10,25 @@ use Rattle.tokens.specs.Tokens.{Token}
 use Rattle.steps.specs.Steps.{Step, ◌⟫◌, next, is, named, stop_at, unfit, any, the, name, many}
 
 -- what is expected, or wrong
-abbrev pub a_value : ℕ
-a_value = 0x301
+abbrev pub a_value : Why
+a_value = Why.AValue
 
-abbrev pub too_deep : ℕ
-too_deep = 0x302
+abbrev pub too_deep : Why
+too_deep = Why.TooDeep
 
 -- a part begins with a bracket that opens or is an atom: "any token but ( ) [ ] { } , ; => +=> "end" and the text's end"
-unfoldable pub part_kind : ℕ → Bool
+unfoldable pub part_kind : Kind → Bool
 part_kind k =
-    cond (eqb k CLOSE_PAREN) false
-    (cond (eqb k CLOSE_BRACKET) false
-    (cond (eqb k OPEN_BRACE) false
-    (cond (eqb k CLOSE_BRACE) false
-    (cond (eqb k COMMA) false
-    (cond (eqb k SEMICOLON) false
-    (cond (eqb k BECOMES) false
-    (cond (eqb k ADDS) false
-    (cond (eqb k END) false
-    (cond (eqb k ENDED) false true)))))))))
+    cond (same_kind k CLOSE_PAREN) false
+    (cond (same_kind k CLOSE_BRACKET) false
+    (cond (same_kind k OPEN_BRACE) false
+    (cond (same_kind k CLOSE_BRACE) false
+    (cond (same_kind k COMMA) false
+    (cond (same_kind k SEMICOLON) false
+    (cond (same_kind k BECOMES) false
+    (cond (same_kind k ADDS) false
+    (cond (same_kind k END) false
+    (cond (same_kind k ENDED) false true)))))))))
 
 abbrev pub begins_part : List Token → Bool
 begins_part ts = part_kind (next ts)
@@ -60,7 +64,7 @@ part_by list fields ts =
 
 -- "a ninth open ( or [ within one value is 23 at the bracket": d more brackets may open
 unfoldable pub part_of : ℕ → List Token → Step
-part_of zero = part_by (stop_at 23 too_deep) (stop_at 23 too_deep)
+part_of zero = part_by (stop_at TooDeep too_deep) (stop_at TooDeep too_deep)
 part_of (suc d) =
     part_by (λ ts. the OPEN_PAREN ts ⟫ list_by (value_by (part_of d))) (λ ts. the OPEN_BRACKET ts ⟫ record_by (value_by (part_of d)))
 

@@ -7,55 +7,29 @@ ghost use Rattle.steps.specs.Lifted.{lift};
 ghost use Rattle.values.specs.Values.{part_kind, value_of, values_by, list_by, record_by, part_of, value, values, scoped, assigns, association};
 ghost use Rattle.values.specs.Values.{associations, block};
 
-use steps::{Went, any, is_name, name, next, stop, symbol};
-use words::kinds::{
-    ADDS, BECOMES, CLOSE_BRACE, CLOSE_BRACKET, CLOSE_PAREN, COMMA, END, ENDED, OPEN_BRACE,
-    OPEN_BRACKET, OPEN_PAREN, SCOPE, SEMICOLON,
-};
-
-// What was expected, or is wrong.
-pub const A_VALUE: usize = 0x301;
-
-pub const TOO_DEEP: usize = 0x302;
+use steps::{Rule, Went, Why, any, is_name, name, next, stop, symbol};
+use words::kinds::Kind;
 
 // How many brackets may be open within one value.
 const DEPTH: usize = 8;
 
 // Whether a part of a value may begin with a token of this kind.
-fn begins_part(kind: usize) -> bool
+fn begins_part(kind: Kind) -> bool
     ensures { result ≡ part_kind kind }
 {
-    if kind == CLOSE_PAREN {
-        return false;
-    }
-    if kind == CLOSE_BRACKET {
-        return false;
-    }
-    if kind == OPEN_BRACE {
-        return false;
-    }
-    if kind == CLOSE_BRACE {
-        return false;
-    }
-    if kind == COMMA {
-        return false;
-    }
-    if kind == SEMICOLON {
-        return false;
-    }
-    if kind == BECOMES {
-        return false;
-    }
-    if kind == ADDS {
-        return false;
-    }
-    if kind == END {
-        return false;
-    }
-    if kind == ENDED {
-        return false;
-    }
-    true
+    !matches!(
+        kind,
+        Kind::Sign(b')')
+            | Kind::Sign(b']')
+            | Kind::Sign(b'{')
+            | Kind::Sign(b'}')
+            | Kind::Sign(b',')
+            | Kind::Sign(b';')
+            | Kind::Becomes
+            | Kind::Adds
+            | Kind::End
+            | Kind::Ended
+    )
 }
 
 // part { part }; `depth` more brackets may open.
@@ -76,22 +50,22 @@ fn skip_part(text: &[u8], went: Went, depth: usize) -> Went
     ensures { lift text.now result ≡ lift text.now went ⟫ part_of depth }
 {
     let kind = next(text, went);
-    if kind == OPEN_PAREN {
+    if kind == Kind::Sign(b'(') {
         if depth == 0 {
-            return stop(text, went, 23, TOO_DEEP);
+            return stop(text, went, Rule::TooDeep, Why::TooDeep);
         }
-        return skip_list(text, symbol(text, went, OPEN_PAREN), depth - 1);
+        return skip_list(text, symbol(text, went, Kind::Sign(b'(')), depth - 1);
     }
-    if kind == OPEN_BRACKET {
+    if kind == Kind::Sign(b'[') {
         if depth == 0 {
-            return stop(text, went, 23, TOO_DEEP);
+            return stop(text, went, Rule::TooDeep, Why::TooDeep);
         }
-        return skip_record(text, symbol(text, went, OPEN_BRACKET), depth - 1);
+        return skip_record(text, symbol(text, went, Kind::Sign(b'[')), depth - 1);
     }
     if begins_part(kind) {
         return any(text, went);
     }
-    stop(text, went, 20, A_VALUE)
+    stop(text, went, Rule::Unfit, Why::AValue)
 }
 
 // A list from behind its bracket on.
@@ -99,10 +73,10 @@ fn skip_part(text: &[u8], went: Went, depth: usize) -> Went
 fn skip_list(text: &[u8], went: Went, depth: usize) -> Went
     ensures { lift text.now result ≡ lift text.now went ⟫ list_by (value_of depth) }
 {
-    if next(text, went) == CLOSE_PAREN {
-        return symbol(text, went, CLOSE_PAREN);
+    if next(text, went) == Kind::Sign(b')') {
+        return symbol(text, went, Kind::Sign(b')'));
     }
-    symbol(text, skip_values(text, went, depth), CLOSE_PAREN)
+    symbol(text, skip_values(text, went, depth), Kind::Sign(b')'))
 }
 
 // value { "," value }
@@ -111,8 +85,8 @@ fn skip_values(text: &[u8], went: Went, depth: usize) -> Went
     ensures { lift text.now result ≡ lift text.now went ⟫ values_by (value_of depth) }
 {
     let mut w = skip_value(text, went, depth);
-    while next(text, w) == COMMA {
-        w = skip_value(text, symbol(text, w, COMMA), depth);
+    while next(text, w) == Kind::Sign(b',') {
+        w = skip_value(text, symbol(text, w, Kind::Sign(b',')), depth);
     }
     w
 }
@@ -124,10 +98,10 @@ fn skip_record(text: &[u8], went: Went, depth: usize) -> Went
 {
     let mut w = went;
     while is_name(next(text, w)) {
-        let assigned = symbol(text, name(text, w), BECOMES);
-        w = symbol(text, skip_value(text, assigned, depth), SEMICOLON);
+        let assigned = symbol(text, name(text, w), Kind::Becomes);
+        w = symbol(text, skip_value(text, assigned, depth), Kind::Sign(b';'));
     }
-    symbol(text, w, CLOSE_BRACKET)
+    symbol(text, w, Kind::Sign(b']'))
 }
 
 // One value, as deep as a value may be.
@@ -149,8 +123,8 @@ pub fn scoped(text: &[u8], went: Went) -> Went
     ensures { lift text.now result ≡ lift text.now went ⟫ scoped }
 {
     let mut w = name(text, went);
-    while next(text, w) == SCOPE {
-        w = name(text, symbol(text, w, SCOPE));
+    while next(text, w) == Kind::Scope {
+        w = name(text, symbol(text, w, Kind::Scope));
     }
     w
 }
@@ -159,10 +133,10 @@ pub fn scoped(text: &[u8], went: Went) -> Went
 fn assigns(text: &[u8], went: Went) -> Went
     ensures { lift text.now result ≡ lift text.now went ⟫ assigns }
 {
-    if next(text, went) == ADDS {
-        return symbol(text, went, ADDS);
+    if next(text, went) == Kind::Adds {
+        return symbol(text, went, Kind::Adds);
     }
-    symbol(text, went, BECOMES)
+    symbol(text, went, Kind::Becomes)
 }
 
 pub fn association(text: &[u8], went: Went) -> Went
@@ -171,7 +145,7 @@ pub fn association(text: &[u8], went: Went) -> Went
     symbol(
         text,
         values(text, assigns(text, scoped(text, went))),
-        SEMICOLON,
+        Kind::Sign(b';'),
     )
 }
 
@@ -192,7 +166,7 @@ pub fn block(text: &[u8], went: Went) -> Went
 {
     symbol(
         text,
-        associations(text, symbol(text, went, OPEN_BRACE)),
-        CLOSE_BRACE,
+        associations(text, symbol(text, went, Kind::Sign(b'{'))),
+        Kind::Sign(b'}'),
     )
 }

@@ -1,16 +1,17 @@
 -- Laws of ways: one type more, where the last one was, and what lent memory holds.
-use Rattle.std.specs.Prelude.{◌+◌, ◌-◌, ◌<◌, ◌≤◌, ◌∷◌, ◌++◌, ◌≡◌}
-use Rattle.common.specs.Words.{ℕ, zero, suc, arith, Bool, true, false, cond, List, [], refl, sym, ap, ◌∙◌, eqb, eq-eqb, ne_eqb, length}
+use Rattle.std.specs.Prelude.{Option, None, Some, IfSome, ◌+◌, ◌-◌, ◌<◌, ◌≤◌, ◌∷◌, ◌++◌, ◌≡◌}
+use Rattle.common.specs.Words.{ℕ, zero, suc, arith, Bool, true, false, cond, List, [], refl, ap, ◌∙◌, eqb, ne_eqb, length}
 use Rattle.common.specs.Words.{get_or, ⊎_elim, set, get_or-set_same, get_or-set_other}
 use Rattle.common.specs.Tests.{lt_or_le}
 use Rattle.std.proofs.Math.Numerals.{unary_clauses}
+use Rattle.tokens.specs.Laws.{either}
 use Rattle.keys.specs.Keys.{Meaning, key, meant}
-use Rattle.rows.specs.Rows.{Row}
 use Rattle.index.specs.Found.{found, found_le}
-use Rattle.index.specs.Index.{rows_in, keys_of}
+use Rattle.index.specs.Options.{row_of, number_in, number_row, row_within}
+use Rattle.index.specs.Index.{cell, rows_in, keys_of}
 use Rattle.index.specs.Laws.{keys_length}
-use Rattle.ways.specs.Ways.{cell, look, type_named, above, implementation_of, way_by, way, most_types, first_in, given, property_of, ends, Bounded}
-use Rattle.ways.specs.Ways.{Known}
+use Rattle.ways.specs.Ways.{look, type_named, above, way_by, way, most_types, first_in, port_of, Bounded}
+use Rattle.ways.specs.Ways.{first_some, Known}
 
 -- ## What is found is there
 
@@ -31,62 +32,36 @@ known_bounded {p} {rows} {declared} {types} {count} x =
 
 -- ## One type more
 
-module _ (up : ℕ → ℕ) where
-  way_none : (left : ℕ) → way_by up left 0 ≡ []
-  unfolding way_by
-  way_none zero = refl
-  way_none (suc left) = refl
+way_none : (up : ℕ → ℕ) (left : ℕ) → way_by up left 0 ≡ []
+unfolding way_by
+way_none up zero = refl
+way_none up (suc left) = refl
 
-  way_step : (left n : ℕ) → 0 < left → 0 < n → way_by up left n ≡ ((n - 1) ∷ way_by up (left - 1) (up (n - 1)))
-  unfolding way_by
-  way_step zero n l h = absurd (omega arith)
-  way_step (suc left) zero l h = absurd (omega arith)
-  way_step (suc left) (suc k) l h = simp unary_clauses refl
+way_step : (up : ℕ → ℕ) (left k : ℕ) → 0 < left → way_by up left (suc k) ≡ k ∷ way_by up (left - 1) (up k)
+unfolding way_by
+way_step up zero k l = absurd (omega arith)
+way_step up (suc left) k l = simp unary_clauses refl
 
 -- what a loop along the way keeps: what is left of it has what the whole has
-pub record FirstLeft (up has : ℕ → ℕ) (left n all : ℕ) : Type 0 where
-  pub same : first_in has (way_by up left n) ≡ all
+pub record SomeLeft (up : ℕ → ℕ) (has : ℕ → Option ℕ) (left : ℕ) (next : Option ℕ) (all : Option ℕ) : Type 0 where
+  pub same : first_some has (way_by up left (number_in next)) ≡ all
 
-module _ {up has : ℕ → ℕ} {left n all : ℕ} (x : FirstLeft up has left n all) where
-  pub first_none : n ≡ 0 → 0 ≡ all
-  unfolding first_in
-  first_none z = rw (z, way_none up left) at x.same
+module _ {up : ℕ → ℕ} {has : ℕ → Option ℕ} {left : ℕ} {next all : Option ℕ} (x : SomeLeft up has left next all) where
+  pub left_none : next ≡ None → None ≡ all
+  unfolding first_some
+  left_none e = rw (e, way_none up left) at x.same
 
-  pub first_over : left ≤ 0 → 0 ≡ all
-  unfolding first_in way_by
-  first_over l = let z : left ≡ 0 = omega arith in rw z at x.same
+  pub left_over : left ≤ 0 → None ≡ all
+  unfolding first_some way_by
+  left_over l = let z : left ≡ 0 = omega arith in rw z at x.same
 
-  pub first_here : {v : ℕ} → 0 < left → 0 < n → v ≡ has (n - 1) → (v ≡ 0 → ⊥) → v ≡ all
-  unfolding first_in
-  first_here {v} l h i z = i ∙ rw (way_step up left n l h, ne_eqb (has (n - 1)) 0 (rw i at z)) at x.same
+  pub left_here : {k r : ℕ} → next ≡ Some k → 0 < left → Some r ≡ has k → Some r ≡ all
+  unfolding first_some
+  left_here {k} {r} e l h = rw (e, way_step up left k l, ← h) at x.same
 
-  pub first_on : {v m : ℕ} → 0 < left → 0 < n → v ≡ has (n - 1) → v ≡ 0 → m ≡ up (n - 1) → FirstLeft up has (left - 1) m all
-  unfolding first_in
-  first_on {v} {m} l h i z u =
-      record { same = rw u (rw (way_step up left n l h, eq-eqb (has (n - 1)) 0 (sym i ∙ z)) at x.same) }
-
--- and it ends as the whole does
-pub record EndsLeft (up : ℕ → ℕ) (rows : List Row) (left n : ℕ) (all : Bool) : Type 0 where
-  pub same : ends rows (way_by up left n) ≡ all
-
-module _ {up : ℕ → ℕ} {rows : List Row} {left n : ℕ} {all : Bool} (x : EndsLeft up rows left n all) where
-  pub ends_none : n ≡ 0 → false ≡ all
-  unfolding ends
-  ends_none z = rw (z, way_none up left) at x.same
-
-  pub ends_over : left ≤ 0 → false ≡ all
-  unfolding ends way_by
-  ends_over l = let z : left ≡ 0 = omega arith in rw z at x.same
-
-  pub ends_here : {v : ℕ} → 0 < left → 0 < n → v ≡ cell rows (n - 1) 3 → v ≡ 0 → true ≡ all
-  unfolding ends
-  ends_here l h i z = rw (way_step up left n l h, eq-eqb (cell rows (n - 1) 3) 0 (sym i ∙ z)) at x.same
-
-  pub ends_on : {v m : ℕ} → 0 < left → 0 < n → v ≡ cell rows (n - 1) 3 →
-      (v ≡ 0 → ⊥) → m ≡ up (n - 1) → EndsLeft up rows (left - 1) m all
-  unfolding ends
-  ends_on {v} {m} l h i z u =
-      record { same = rw u (rw (way_step up left n l h, ne_eqb (cell rows (n - 1) 3) 0 (rw i at z)) at x.same) }
+  pub left_on : {k less : ℕ} → next ≡ Some k → 0 < left → None ≡ has k → less ≡ left - 1 → SomeLeft up has less (row_of (up k)) all
+  unfolding first_some
+  left_on {k} {less} e l h f = record { same = rw (number_row (up k), f) (rw (e, way_step up left k l, ← h) at x.same) }
 
 -- ## In memory
 
@@ -108,6 +83,22 @@ known_way {p} {rows} {declared} {types} {count} x k l =
     (get_or types k 0) ((known_bounded x).within k l)
     ∙ ap (λ (n : ℕ). way_by (above p (rows_in count rows)) most_types n) (x.typed k l)
 
+-- the same from the type above, as the code has it
+pub known_from : {p rows declared types : List ℕ} {count : ℕ} → Known p rows declared types count → {k : ℕ} → k < count →
+    {o : Option ℕ} → o ≡ row_of (above p (rows_in count rows) k) →
+    way_by (λ (j : ℕ). get_or types j 0) most_types (number_in o) ≡ way p (rows_in count rows) k
+known_from x {k} l e = rw (e, number_row _, ← x.typed k l) (known_way x k l)
+
+-- a port that is found is there
+first_le : (has : ℕ → ℕ) (n : ℕ) → ((j : ℕ) → has j ≤ n) → (ks : List ℕ) → first_in has ks ≤ n
+unfolding first_in
+first_le has n h [] = omega arith
+first_le has n h (k ∷ ks) = either (λ (v : ℕ). v ≤ n) (eqb (has k) 0) (first_le has n h ks) (h k)
+
+pub port_within : (p : List ℕ) (n : ℕ) (m : List ℕ) (k name : ℕ) → IfSome (row_of (port_of p (rows_in n m) k name)) (λ j. j < n)
+unfolding port_of
+port_within p n m k name = row_within _ (first_le _ n (λ j. look_le p 0 n m _) (way p (rows_in n m) k))
+
 -- one entry more is right
 pub types_more : {f : ℕ → ℕ} (types : List ℕ) {k v : ℕ} →
     ((j : ℕ) → j < k → get_or types j 0 ≡ f j) → k < length types → v ≡ f k →
@@ -120,7 +111,7 @@ types_more {f} types {k} {v} h l e j i =
 
 -- ## A thread's properties
 
-first_append : (has : ℕ → ℕ) (a b : List ℕ) → first_in has (a ++ b) ≡ cond (eqb (first_in has a) 0) (first_in has b) (first_in has a)
+pub first_append : (has : ℕ → ℕ) (a b : List ℕ) → first_in has (a ++ b) ≡ cond (eqb (first_in has a) 0) (first_in has b) (first_in has a)
 unfolding first_in
 first_append has [] b = refl
 first_append has (k ∷ ks) b = rw (first_append has ks b) (go (has k) (first_in has ks))
@@ -129,26 +120,3 @@ first_append has (k ∷ ks) b = rw (first_append has ks b) (go (has k) (first_in
         ≡ cond (eqb (cond (eqb n 0) m n) 0) (first_in has b) (cond (eqb n 0) m n)
     go zero m = refl
     go (suc n) m = simp (ne_eqb (suc n) 0 (λ e. omega arith))
-
-pub given_first : (has : ℕ → ℕ) (k n : ℕ) → has k ≡ 0 → (n ≡ 0 → ⊥) → has (n - 1) ≡ first_in has (k ∷ given n)
-unfolding first_in
-given_first has k zero z h = absurd (h refl)
-given_first has k (suc n) z h = simp unary_clauses (rw (eq-eqb (has k) 0 z) (go (has n)))
-  where
-    go : (m : ℕ) → m ≡ cond (eqb m 0) 0 m
-    go zero = refl
-    go (suc m) = rw (ne_eqb (suc m) 0 (λ e. omega arith))
-
--- of thread k, which names implementation i: v is what it or the implementation has, where one of them has it
-module _ (p : List ℕ) (rows : List Row) (k c : ℕ) {i v : ℕ} (named : i ≡ implementation_of p rows k)
-    (own : v ≡ first_in (λ (j : ℕ). cell rows j c) (k ∷ given i)) where
-  abbrev has : ℕ → ℕ
-  has j = cell rows j c
-
-  pub property_own : (v ≡ 0 → ⊥) → v ≡ property_of p rows k c
-  unfolding property_of
-  property_own z = rw (first_append has (k ∷ given (implementation_of p rows k)) (way p rows k), ← named, ← own, ne_eqb v 0 z)
-
-  pub property_else : {w : ℕ} → v ≡ 0 → w ≡ first_in has (way p rows k) → w ≡ property_of p rows k c
-  unfolding property_of
-  property_else z e = rw (first_append has (k ∷ given (implementation_of p rows k)) (way p rows k), ← named, ← own, eq-eqb v 0 z) e

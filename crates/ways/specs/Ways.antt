@@ -1,16 +1,12 @@
 -- AADL.md, sections 4 and 6: which declaration a name means, and the way from a thread's type to the types that this one extends, along
 -- which its properties and its ports are looked for.
-use Rattle.std.specs.Prelude.{◌<◌, ◌≤◌, ◌≡◌, ◌∷◌, ◌++◌}
+use Rattle.std.specs.Prelude.{Option, None, Some, ◌<◌, ◌≤◌, ◌≡◌, ◌∷◌, ◌++◌}
 use Rattle.common.specs.Words.{ℕ, zero, suc, Bool, true, false, cond, List, [], eqb, length, get_or}
 use Rattle.keys.specs.declared.Key.{Key}
 use Rattle.keys.specs.Keys.{key, meant}
 use Rattle.rows.specs.Rows.{Row, a_type, an_implementation, a_port, a_thread}
 use Rattle.index.specs.Found.{found}
-use Rattle.index.specs.Index.{column, rows_in, keys_of, Indexed}
-
--- a number of row k
-abbrev pub cell : List Row → ℕ → ℕ → ℕ
-cell rows k c = column (get_or rows k []) c
+use Rattle.index.specs.Index.{cell, rows_in, keys_of, Indexed}
 
 -- "Where a name was declared twice, the first counts": its row's number counted from 1, 0 where there is none
 abbrev pub look : List ℕ → ℕ → List Row → Key → ℕ
@@ -52,6 +48,16 @@ way p rows k = way_by (above p rows) most_types (above p rows k)
 unfoldable pub first_in : (ℕ → ℕ) → List ℕ → ℕ
 first_in has [] = 0
 first_in has (k ∷ ks) = cond (eqb (has k) 0) (first_in has ks) (has k)
+
+-- the same as an option
+abbrev pub or_else : Option ℕ → Option ℕ → Option ℕ
+or_else None o = o
+or_else (Some v) o = Some v
+
+-- what the first has of those that have it
+unfoldable pub first_some : (ℕ → Option ℕ) → List ℕ → Option ℕ
+first_some has [] = None
+first_some has (k ∷ ks) = or_else (has k) (first_some has ks)
 
 -- "A thread's Period, Deadline, Dispatch_Protocol, Dispatch_Offset and Priority, each: from its block; else from the thread_impl ..; else
 -- from the thread_type, then from the type that this one extends"

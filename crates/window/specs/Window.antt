@@ -1,5 +1,6 @@
--- The window of the receiver's job that was released last, from the columns of a plan, and what may be remembered of it.
-use Rattle.std.specs.Prelude.{◌+◌, ◌-◌, ◌*◌, ◌/◌, ◌^◌, ◌<◌, ◌≤◌, ◌&&◌, ◌≡◌}
+-- The window of the receiver's job that was released last, and what may be remembered of it.
+use Rattle.std.specs.Option.{ForSome}
+use Rattle.std.specs.Prelude.{Option, Some, None, ◌+◌, ◌-◌, ◌*◌, ◌/◌, ◌^◌, ◌<◌, ◌≤◌, ◌&&◌, ◌≡◌}
 use Rattle.common.specs.Words.{ℕ, arith, div-mul-le_self, div-eq_of_lt-le, mul-le-mul_right, Bool, true, leb, ltb, leb-true, ltb-true, refl, sym}
 use Rattle.common.specs.Words.{ap, ◌∙◌}
 use Rattle.common.specs.Tests.{both}
@@ -8,7 +9,7 @@ use Rattle.calendar.specs.Calendar.{tick, message}
 use Rattle.plan.specs.Limits.{queue_limit, last_tick}
 use Rattle.plan.specs.Plan.{queue_at, Usable}
 use Rattle.plan.specs.declared.Plan.{Plan}
-use Rattle.counting.specs.Columns.{plan_columns, lent, up_to_columns}
+use Rattle.counting.specs.Lent.{lent}
 use Rattle.counting.specs.Bounds.{up_to_fits}
 use Rattle.window.specs.declared.Remembered.{Remembered}
 use Rattle.window.specs.declared.WindowEnds.{WindowEnds}
@@ -42,15 +43,15 @@ low_before_high P t = mul-le-mul_right P (omega arith)
 
 module _ (p : Plan) (q t : ℕ) where
   abbrev pub plan_window : WindowEnds
-  plan_window = window_at (plan_columns p q) (receiver_period (queue_at p q)) t
+  plan_window = window_at (queue_at p q) (receiver_period (queue_at p q)) t
 
   pub window_first : plan_window.before.0 + 1 ≡ first (queue_at p q) (t / receiver_period (queue_at p q))
   unfolding last
-  window_first = rw (up_to_columns p q)
+  window_first = refl
 
   pub window_last : plan_window.end.0 ≡ last (queue_at p q) (t / receiver_period (queue_at p q))
   unfolding last
-  window_last = up_to_columns p q _
+  window_last = refl
 
   pub before_fits : Usable p q → t ≤ last_tick → plan_window.before.0 + 1 < 2 ^ 64
   before_fits u h =
@@ -75,24 +76,20 @@ still_runs q P t {w} (k, e) h =
     let n : t - w.high.0 < P = ltb-true _ _ b.1 in
     e ∙ ap (job_window q P) (sym (div-eq_of_lt-le P (omega (arith, l, r)) (omega (arith, l, n, r))))
 
-abbrev pub no_window : Remembered
-no_window = record {
-  queue = queue_limit;
-  window = record { low = tick 0; high = tick 0; before = message 0; end = message 0 };
-}
-
 -- what is remembered of a plan: the window of one of a receiver's jobs, or nothing
-abbrev pub Remembers : Plan → Remembered → Type 0
-Remembers p r =
-    r.queue < queue_limit → JobsWindow (plan_columns p r.queue) (receiver_period (queue_at p r.queue)) r.window
+abbrev pub Remembers : Plan → Option Remembered → Type 0
+Remembers p o =
+    ForSome o (λ r. r.queue < queue_limit → JobsWindow (queue_at p r.queue) (receiver_period (queue_at p r.queue)) r.window)
 
-pub remembers_nothing : (p : Plan) {r : Remembered} → r ≡ no_window → Remembers p r
-remembers_nothing p e = rw e (λ h. absurd (omega (arith, h)))
+pub remembers_nothing : (p : Plan) → Remembers p None
+remembers_nothing p r e = cc
 
 -- of the queue that is remembered
-pub remembered_window : (p : Plan) (q : ℕ) {r : Remembered} → Remembers p r → q < queue_limit → r.queue ≡ q →
-    JobsWindow (plan_columns p q) (receiver_period (queue_at p q)) r.window
-remembered_window p q h l e = rw e at (h (omega (arith, e, l)))
+pub remembered_window : (p : Plan) (q : ℕ) {o : Option Remembered} → Remembers p o → q < queue_limit →
+    ForSome o (λ r. r.queue ≡ q → JobsWindow (queue_at p q) (receiver_period (queue_at p q)) r.window)
+remembered_window p q h l r s e = rw e at (h r s (omega (arith, e, l)))
 
-pub remembers_window : (p : Plan) (q t : ℕ) {r : Remembered} → r ≡ record { queue = q; window = plan_window p q t } → Remembers p r
-remembers_window p q t e = rw e (λ h. (t / receiver_period (queue_at p q), refl))
+pub remembers_window : (p : Plan) (q t : ℕ) {r : Remembered} → r ≡ record { queue = q; window = plan_window p q t } → Remembers p (Some r)
+remembers_window p q t e r s =
+    let k : r ≡ record { queue = q; window = plan_window p q t } = cc in
+    rw k (λ h. (t / receiver_period (queue_at p q), refl))

@@ -1,233 +1,234 @@
--- Kinds of tokens. A byte by itself is its own kind; a word's is its number in the list of words (`kinds_are`).
+-- Kinds of tokens. A byte by itself is its own kind; a word has a kind of its own in the list of words (`kinds_are`).
 use Rattle.std.specs.Prelude.{◌∷◌, ◌++◌, ◌≡◌}
-use Rattle.common.specs.Words.{ℕ, [], map, refl}
+use Rattle.common.specs.Words.{[], map, refl}
+use Rattle.words.specs.declared.kinds.Kind.{Kind}
 use Rattle.words.specs.Letters.{letters, words_by, same}
-use Rattle.words.specs.Words.{listed, rank, kind_of}
+use Rattle.words.specs.Words.{listed, rank, kinds, kind_of}
 
 -- the text's end, and a NUMBER
-abbrev pub ENDED : ℕ
-ENDED = 0x100
+abbrev pub ENDED : Kind
+ENDED = Kind.Ended
 
-abbrev pub NUMBER : ℕ
-NUMBER = 0x101
+abbrev pub NUMBER : Kind
+NUMBER = Kind.Number
 
 -- `=>` `+=>` `->` `->>` `<->` `::` `..`
-abbrev pub BECOMES : ℕ
-BECOMES = 0x102
+abbrev pub BECOMES : Kind
+BECOMES = Kind.Becomes
 
-abbrev pub ADDS : ℕ
-ADDS = 0x103
+abbrev pub ADDS : Kind
+ADDS = Kind.Adds
 
-abbrev pub ARROW : ℕ
-ARROW = 0x104
+abbrev pub ARROW : Kind
+ARROW = Kind.Arrow
 
-abbrev pub DELAYING : ℕ
-DELAYING = 0x105
+abbrev pub DELAYING : Kind
+DELAYING = Kind.Delaying
 
-abbrev pub BOTH_WAYS : ℕ
-BOTH_WAYS = 0x106
+abbrev pub BOTH_WAYS : Kind
+BOTH_WAYS = Kind.BothWays
 
-abbrev pub SCOPE : ℕ
-SCOPE = 0x107
+abbrev pub SCOPE : Kind
+SCOPE = Kind.Scope
 
-abbrev pub DOTS : ℕ
-DOTS = 0x108
+abbrev pub DOTS : Kind
+DOTS = Kind.Dots
 
 -- single bytes; an ANNEX is the A of the plain text
-abbrev pub COLON : ℕ
-COLON = 0x3a
+abbrev pub COLON : Kind
+COLON = Kind.Sign 0x3a
 
-abbrev pub SEMICOLON : ℕ
-SEMICOLON = 0x3b
+abbrev pub SEMICOLON : Kind
+SEMICOLON = Kind.Sign 0x3b
 
-abbrev pub COMMA : ℕ
-COMMA = 0x2c
+abbrev pub COMMA : Kind
+COMMA = Kind.Sign 0x2c
 
-abbrev pub DOT : ℕ
-DOT = 0x2e
+abbrev pub DOT : Kind
+DOT = Kind.Sign 0x2e
 
-abbrev pub OPEN_PAREN : ℕ
-OPEN_PAREN = 0x28
+abbrev pub OPEN_PAREN : Kind
+OPEN_PAREN = Kind.Sign 0x28
 
-abbrev pub CLOSE_PAREN : ℕ
-CLOSE_PAREN = 0x29
+abbrev pub CLOSE_PAREN : Kind
+CLOSE_PAREN = Kind.Sign 0x29
 
-abbrev pub OPEN_BRACKET : ℕ
-OPEN_BRACKET = 0x5b
+abbrev pub OPEN_BRACKET : Kind
+OPEN_BRACKET = Kind.Sign 0x5b
 
-abbrev pub CLOSE_BRACKET : ℕ
-CLOSE_BRACKET = 0x5d
+abbrev pub CLOSE_BRACKET : Kind
+CLOSE_BRACKET = Kind.Sign 0x5d
 
-abbrev pub OPEN_BRACE : ℕ
-OPEN_BRACE = 0x7b
+abbrev pub OPEN_BRACE : Kind
+OPEN_BRACE = Kind.Sign 0x7b
 
-abbrev pub CLOSE_BRACE : ℕ
-CLOSE_BRACE = 0x7d
+abbrev pub CLOSE_BRACE : Kind
+CLOSE_BRACE = Kind.Sign 0x7d
 
-abbrev pub ANNEXED : ℕ
-ANNEXED = 0x41
+abbrev pub ANNEXED : Kind
+ANNEXED = Kind.Sign 0x41
 
 -- words that the rules know
-abbrev pub ABSTRACT : ℕ
-ABSTRACT = 0x200
+abbrev pub ABSTRACT : Kind
+ABSTRACT = Kind.Abstract
 
-abbrev pub ACCESS : ℕ
-ACCESS = 0x201
+abbrev pub ACCESS : Kind
+ACCESS = Kind.Access
 
-abbrev pub ANNEX : ℕ
-ANNEX = 0x202
+abbrev pub ANNEX : Kind
+ANNEX = Kind.Annex
 
-abbrev pub APPLIES : ℕ
-APPLIES = 0x204
+abbrev pub APPLIES : Kind
+APPLIES = Kind.Applies
 
-abbrev pub BUS : ℕ
-BUS = 0x206
+abbrev pub BUS : Kind
+BUS = Kind.Bus
 
-abbrev pub CALLS : ℕ
-CALLS = 0x207
+abbrev pub CALLS : Kind
+CALLS = Kind.Calls
 
-abbrev pub CONNECTIONS : ℕ
-CONNECTIONS = 0x20a
+abbrev pub CONNECTIONS : Kind
+CONNECTIONS = Kind.Connections
 
-abbrev pub DATA : ℕ
-DATA = 0x20c
+abbrev pub DATA : Kind
+DATA = Kind.Data
 
-abbrev pub DEVICE : ℕ
-DEVICE = 0x20e
+abbrev pub DEVICE : Kind
+DEVICE = Kind.Device
 
-abbrev pub END : ℕ
-END = 0x20f
+abbrev pub END : Kind
+END = Kind.End
 
-abbrev pub EVENT : ℕ
-EVENT = 0x210
+abbrev pub EVENT : Kind
+EVENT = Kind.Event
 
-abbrev pub EXTENDS : ℕ
-EXTENDS = 0x211
+abbrev pub EXTENDS : Kind
+EXTENDS = Kind.Extends
 
-abbrev pub FEATURE : ℕ
-FEATURE = 0x213
+abbrev pub FEATURE : Kind
+FEATURE = Kind.Feature
 
-abbrev pub FEATURES : ℕ
-FEATURES = 0x214
+abbrev pub FEATURES : Kind
+FEATURES = Kind.Features
 
-abbrev pub FLOWS : ℕ
-FLOWS = 0x216
+abbrev pub FLOWS : Kind
+FLOWS = Kind.Flows
 
-abbrev pub GROUP : ℕ
-GROUP = 0x217
+abbrev pub GROUP : Kind
+GROUP = Kind.Group
 
-abbrev pub IMPLEMENTATION : ℕ
-IMPLEMENTATION = 0x218
+abbrev pub IMPLEMENTATION : Kind
+IMPLEMENTATION = Kind.Implementation
 
-abbrev pub IN : ℕ
-IN = 0x219
+abbrev pub IN : Kind
+IN = Kind.In
 
-abbrev pub MEMORY : ℕ
-MEMORY = 0x21f
+abbrev pub MEMORY : Kind
+MEMORY = Kind.Memory
 
-abbrev pub MODES : ℕ
-MODES = 0x221
+abbrev pub MODES : Kind
+MODES = Kind.Modes
 
-abbrev pub NONE : ℕ
-NONE = 0x222
+abbrev pub NONE : Kind
+NONE = Kind.None
 
-abbrev pub OUT : ℕ
-OUT = 0x226
+abbrev pub OUT : Kind
+OUT = Kind.Out
 
-abbrev pub PACKAGE : ℕ
-PACKAGE = 0x227
+abbrev pub PACKAGE : Kind
+PACKAGE = Kind.Package
 
-abbrev pub PARAMETER : ℕ
-PARAMETER = 0x228
+abbrev pub PARAMETER : Kind
+PARAMETER = Kind.Parameter
 
-abbrev pub PORT : ℕ
-PORT = 0x22a
+abbrev pub PORT : Kind
+PORT = Kind.Port
 
-abbrev pub PRIVATE : ℕ
-PRIVATE = 0x22b
+abbrev pub PRIVATE : Kind
+PRIVATE = Kind.Private
 
-abbrev pub PROCESS : ℕ
-PROCESS = 0x22c
+abbrev pub PROCESS : Kind
+PROCESS = Kind.Process
 
-abbrev pub PROCESSOR : ℕ
-PROCESSOR = 0x22d
+abbrev pub PROCESSOR : Kind
+PROCESSOR = Kind.Processor
 
-abbrev pub PROPERTIES : ℕ
-PROPERTIES = 0x22e
+abbrev pub PROPERTIES : Kind
+PROPERTIES = Kind.Properties
 
-abbrev pub PROPERTY : ℕ
-PROPERTY = 0x22f
+abbrev pub PROPERTY : Kind
+PROPERTY = Kind.Property
 
-abbrev pub PROTOTYPES : ℕ
-PROTOTYPES = 0x230
+abbrev pub PROTOTYPES : Kind
+PROTOTYPES = Kind.Prototypes
 
-abbrev pub PROVIDES : ℕ
-PROVIDES = 0x231
+abbrev pub PROVIDES : Kind
+PROVIDES = Kind.Provides
 
-abbrev pub PUBLIC : ℕ
-PUBLIC = 0x232
+abbrev pub PUBLIC : Kind
+PUBLIC = Kind.Public
 
-abbrev pub REQUIRES : ℕ
-REQUIRES = 0x238
+abbrev pub REQUIRES : Kind
+REQUIRES = Kind.Requires
 
-abbrev pub SUBCOMPONENTS : ℕ
-SUBCOMPONENTS = 0x23b
+abbrev pub SUBCOMPONENTS : Kind
+SUBCOMPONENTS = Kind.Subcomponents
 
-abbrev pub SUBPROGRAM : ℕ
-SUBPROGRAM = 0x23c
+abbrev pub SUBPROGRAM : Kind
+SUBPROGRAM = Kind.Subprogram
 
-abbrev pub SYSTEM : ℕ
-SYSTEM = 0x23d
+abbrev pub SYSTEM : Kind
+SYSTEM = Kind.System
 
-abbrev pub THREAD : ℕ
-THREAD = 0x23e
+abbrev pub THREAD : Kind
+THREAD = Kind.Thread
 
-abbrev pub VIRTUAL : ℕ
-VIRTUAL = 0x243
+abbrev pub VIRTUAL : Kind
+VIRTUAL = Kind.Virtual
 
-abbrev pub WITH : ℕ
-WITH = 0x244
+abbrev pub WITH : Kind
+WITH = Kind.With
 
-abbrev pub PERIOD : ℕ
-PERIOD = 0x245
+abbrev pub PERIOD : Kind
+PERIOD = Kind.Period
 
-abbrev pub DEADLINE : ℕ
-DEADLINE = 0x246
+abbrev pub DEADLINE : Kind
+DEADLINE = Kind.Deadline
 
-abbrev pub DISPATCH_PROTOCOL : ℕ
-DISPATCH_PROTOCOL = 0x247
+abbrev pub DISPATCH_PROTOCOL : Kind
+DISPATCH_PROTOCOL = Kind.DispatchProtocol
 
-abbrev pub DISPATCH_OFFSET : ℕ
-DISPATCH_OFFSET = 0x248
+abbrev pub DISPATCH_OFFSET : Kind
+DISPATCH_OFFSET = Kind.DispatchOffset
 
-abbrev pub PRIORITY : ℕ
-PRIORITY = 0x249
+abbrev pub PRIORITY : Kind
+PRIORITY = Kind.Priority
 
-abbrev pub TIMING : ℕ
-TIMING = 0x24a
+abbrev pub TIMING : Kind
+TIMING = Kind.Timing
 
-abbrev pub TIMING_PROPERTIES : ℕ
-TIMING_PROPERTIES = 0x24b
+abbrev pub TIMING_PROPERTIES : Kind
+TIMING_PROPERTIES = Kind.TimingProperties
 
-abbrev pub THREAD_PROPERTIES : ℕ
-THREAD_PROPERTIES = 0x24c
+abbrev pub THREAD_PROPERTIES : Kind
+THREAD_PROPERTIES = Kind.ThreadProperties
 
-abbrev pub COMMUNICATION_PROPERTIES : ℕ
-COMMUNICATION_PROPERTIES = 0x24d
+abbrev pub COMMUNICATION_PROPERTIES : Kind
+COMMUNICATION_PROPERTIES = Kind.CommunicationProperties
 
-abbrev pub MS : ℕ
-MS = 0x24e
+abbrev pub MS : Kind
+MS = Kind.Ms
 
-abbrev pub SEC : ℕ
-SEC = 0x24f
+abbrev pub SEC : Kind
+SEC = Kind.Sec
 
-abbrev pub PERIODIC : ℕ
-PERIODIC = 0x250
+abbrev pub PERIODIC : Kind
+PERIODIC = Kind.Periodic
 
-abbrev pub DELAYED : ℕ
-DELAYED = 0x251
+abbrev pub DELAYED : Kind
+DELAYED = Kind.Delayed
 
--- each of them has the number of its word
+-- each of them is the kind of its word
 pub kinds_are :
     map kind_of
     (words_by [] (letters "abstract access annex applies bus calls connections data device end event extends feature features flows group "
@@ -239,5 +240,5 @@ pub kinds_are :
     PROCESS ∷ PROCESSOR ∷ PROPERTIES ∷ PROPERTY ∷ PROTOTYPES ∷ PROVIDES ∷ PUBLIC ∷ REQUIRES ∷ SUBCOMPONENTS ∷ SUBPROGRAM ∷
     SYSTEM ∷ THREAD ∷ VIRTUAL ∷ WITH ∷ PERIOD ∷ DEADLINE ∷ DISPATCH_PROTOCOL ∷ DISPATCH_OFFSET ∷ PRIORITY ∷ TIMING ∷
     TIMING_PROPERTIES ∷ THREAD_PROPERTIES ∷ COMMUNICATION_PROPERTIES ∷ MS ∷ SEC ∷ PERIODIC ∷ DELAYED ∷ []
-unfolding words_by same listed rank kind_of
+unfolding words_by same listed rank kinds kind_of
 kinds_are = refl

@@ -1,5 +1,6 @@
 -- Words that are written out, as lists of bytes.
-use Rattle.std.specs.Prelude.{◌+◌, ◌-◌, ◌<◌, ◌∷◌, ◌++◌, ◌≡◌}
+use Rattle.std.specs.Prelude.{◌+◌, ◌-◌, ◌<◌, ◌∷◌, ◌++◌, ◌&&◌, ◌≡◌}
+use Rattle.std.specs.Cmp.Lexicographic.{pointwise}
 use Rattle.common.specs.Words.{ℕ, zero, suc, Bool, true, false, cond, List, [], refl, eqb, eq-eqb, ne_eqb, eqb-true, length, get_or}
 use Rattle.common.specs.Stores.{part, part_cons}
 use Prim.Native.String.{String, len, char_at}
@@ -24,6 +25,18 @@ same [] [] = true
 same [] (c ∷ cs) = false
 same (b ∷ bs) [] = false
 same (b ∷ bs) (c ∷ cs) = cond (eqb b c) (same bs cs) false
+
+-- the same as the library says of two lists
+pub same_pointwise : (v w : List ℕ) → pointwise eqb v w ≡ same v w
+unfolding same
+same_pointwise [] [] = refl
+same_pointwise [] (c ∷ w) = refl
+same_pointwise (b ∷ v) [] = refl
+same_pointwise (b ∷ v) (c ∷ w) = go (eqb b c) (same_pointwise v w)
+  where
+    go : (t : Bool) → pointwise eqb v w ≡ same v w → (t && pointwise eqb v w) ≡ cond t (same v w) false
+    go true e = e
+    go false e = refl
 
 -- two parts are compared by their first bytes and what follows them
 module _ (a b : List ℕ) (p q n : ℕ) (some : 0 < n) (l : p < length a) (m : q < length b) where

@@ -1,7 +1,8 @@
 -- AADL.md, section 1: the reserved words, and the words that are names with a meaning of their own (section 4).
 use Rattle.std.specs.Prelude.{◌+◌, ◌∷◌, ◌++◌}
-use Rattle.common.specs.Words.{ℕ, Bool, cond, List, [], leb}
+use Rattle.common.specs.Words.{ℕ, Bool, true, false, cond, List, [], get_or}
 use Rattle.words.specs.Letters.{letters, words_by, same}
+use Rattle.words.specs.declared.kinds.Kind.{Kind}
 
 -- "Reserved words", and behind them the names that section 4 knows
 unfoldable pub listed : List (List ℕ)
@@ -18,19 +19,44 @@ unfoldable pub rank : List (List ℕ) → ℕ → ℕ → List ℕ → ℕ
 rank [] k other w = other
 rank (v ∷ vs) k other w = let next = rank vs (k + 1) other w in cond (same v w) k next
 
--- the kind of the first word of the list, of the first that is a name, and of a name that does not stand there
-abbrev pub first_word : ℕ
-first_word = 0x200
+-- the kinds of the words, one for each
+unfoldable pub kinds : List Kind
+kinds =
+    Kind.Abstract ∷ Kind.Access ∷ Kind.Annex ∷ Kind.And ∷ Kind.Applies ∷ Kind.Binding ∷ Kind.Bus ∷ Kind.Calls ∷ Kind.Classifier ∷
+    Kind.Compute ∷ Kind.Connections ∷ Kind.Constant ∷ Kind.Data ∷ Kind.Delta ∷ Kind.Device ∷ Kind.End ∷ Kind.Event ∷ Kind.Extends ∷
+    Kind.False ∷ Kind.Feature ∷ Kind.Features ∷ Kind.Flow ∷ Kind.Flows ∷ Kind.Group ∷ Kind.Implementation ∷ Kind.In ∷ Kind.Inherit ∷
+    Kind.Initial ∷ Kind.Inverse ∷ Kind.Is ∷ Kind.List ∷ Kind.Memory ∷ Kind.Mode ∷ Kind.Modes ∷ Kind.None ∷ Kind.Not ∷ Kind.Of ∷
+    Kind.Or ∷
+    Kind.Out ∷ Kind.Package ∷ Kind.Parameter ∷ Kind.Path ∷ Kind.Port ∷ Kind.Private ∷ Kind.Process ∷ Kind.Processor ∷
+    Kind.Properties ∷
+    Kind.Property ∷ Kind.Prototypes ∷ Kind.Provides ∷ Kind.Public ∷ Kind.Range ∷ Kind.Record ∷ Kind.Reference ∷ Kind.Refined ∷
+    Kind.Renames ∷ Kind.Requires ∷ Kind.SelfWord ∷ Kind.Set ∷ Kind.Subcomponents ∷ Kind.Subprogram ∷ Kind.System ∷ Kind.Thread ∷
+    Kind.To ∷
+    Kind.True ∷ Kind.Type ∷ Kind.Units ∷ Kind.Virtual ∷ Kind.With ∷ Kind.Period ∷ Kind.Deadline ∷ Kind.DispatchProtocol ∷
+    Kind.DispatchOffset ∷ Kind.Priority ∷ Kind.Timing ∷ Kind.TimingProperties ∷ Kind.ThreadProperties ∷ Kind.CommunicationProperties ∷
+    Kind.Ms ∷ Kind.Sec ∷ Kind.Periodic ∷ Kind.Delayed ∷ []
 
-abbrev pub first_name : ℕ
-first_name = 0x245
+-- the kind of a name that does not stand in the list
+abbrev pub NAME : Kind
+NAME = Kind.Name
 
-abbrev pub NAME : ℕ
-NAME = 0x2ff
-
-unfoldable pub kind_of : List ℕ → ℕ
-kind_of w = rank listed first_word NAME w
+unfoldable pub kind_of : List ℕ → Kind
+kind_of w = get_or kinds (rank listed 0 82 w) NAME
 
 -- "A reserved word is no NAME"
-abbrev pub is_name : ℕ → Bool
-is_name kind = leb first_name kind
+abbrev pub is_name : Kind → Bool
+is_name Kind.Period = true
+is_name Kind.Deadline = true
+is_name Kind.DispatchProtocol = true
+is_name Kind.DispatchOffset = true
+is_name Kind.Priority = true
+is_name Kind.Timing = true
+is_name Kind.TimingProperties = true
+is_name Kind.ThreadProperties = true
+is_name Kind.CommunicationProperties = true
+is_name Kind.Ms = true
+is_name Kind.Sec = true
+is_name Kind.Periodic = true
+is_name Kind.Delayed = true
+is_name Kind.Name = true
+is_name _ = false

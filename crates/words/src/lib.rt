@@ -7,10 +7,11 @@ ghost use Rattle.std.specs.Prelude.{◌≡◌, ◌+◌, ◌-◌, ◌≤◌, ◌<
 ghost use Rattle.common.specs.Words.{length, get_or};
 ghost use Rattle.common.specs.Stores.{part};
 ghost use Rattle.words.specs.Letters.{same};
-ghost use Rattle.words.specs.Words.{kind_of};
+ghost use Rattle.words.specs.Words.{kinds, kind_of};
+ghost use Rattle.words.specs.declared.kinds.Kind.TheVariants.{Ended};
 ghost use Rattle.words.specs.Found.{sum_of, word_at, number_with};
 
-use kinds::{FIRST_WORD, NAME};
+use kinds::{KINDS, Kind};
 
 // The words, so many bytes for each.
 const WIDTH: usize = 25;
@@ -80,12 +81,7 @@ pub fn alike(a: &[u8], p: usize, b: &[u8], q: usize, n: usize) -> bool
     requires { (p + n ≤ length a.now) × (q + n ≤ length b.now) }
     ensures { result ≡ same (part a.now p n) (part b.now q n) }
 {
-    for j in 0..n {
-        if a[p + j] != b[q + j] {
-            return false;
-        }
-    }
-    true
+    a[p..p + n] == b[q..q + n]
 }
 
 // The number of the word that has a sum.
@@ -112,17 +108,25 @@ fn is_word(text: &[u8], start: usize, k: usize, n: usize) -> bool
     alike(text, start, &WORDS, WIDTH * k, n)
 }
 
+// The kind of a word of the list.
+fn kind_at(k: usize) -> Kind
+    requires { k < 82 }
+    ensures { result ≡ get_or kinds k Ended }
+{
+    KINDS[k]
+}
+
 // The kind of the word from `start` to `end`.
-pub fn word_kind(text: &[u8], start: usize, end: usize) -> usize
+pub fn word_kind(text: &[u8], start: usize, end: usize) -> Kind
     requires { (start ≤ end) × (end ≤ length text.now) }
     ensures { result ≡ kind_of (part text.now start (end - start)) }
 {
     let k = number_with(sum_of(text, start, end));
     if length_of(k) != end - start {
-        return NAME;
+        return Kind::Name;
     }
     if is_word(text, start, k, end - start) {
-        return FIRST_WORD + k;
+        return kind_at(k);
     }
-    NAME
+    Kind::Name
 }

@@ -8,10 +8,10 @@ pub nonzero_rem-result : goal.nonzero_rem-result
 unfolding has_deadline
 nonzero_rem-result c = search rules
 
-pub returns-then-at-deadline : goal.returns-then-at-deadline
+pub returns-then-deadline-at : goal.returns-then-deadline-at
 unfolding has_deadline
-returns-then-at-deadline c = search tests
+returns-then-deadline-at c = search tests
 
-pub returns-else-at-deadline : goal.returns-else-at-deadline
+pub returns-else-deadline-at : goal.returns-else-deadline-at
 unfolding has_deadline
-returns-else-at-deadline c = search tests
+returns-else-deadline-at c = search tests

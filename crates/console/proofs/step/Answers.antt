@@ -8,14 +8,11 @@ returns-then-out-lt-ROOM c =
     let a = c.args in
     step_short a.desk a.memory.now a.line.now a.out.now (search rules)
 
-pub slice_bounds-frame_of-end : goal.slice_bounds-frame_of-end
-slice_bounds-frame_of-end c = simp length-take (omega (arith, c.bytes_in-n.ensures.0))
-
-pub slice_bounds-payload_in-end : goal.slice_bounds-payload_in-end
-slice_bounds-payload_in-end c = simp length-take (omega (arith, c.bytes_in-n.ensures.0))
+pub slice_bounds-framed-end : goal.slice_bounds-framed-end
+slice_bounds-framed-end c = simp length-take (omega (arith, c.bytes_in-n.ensures.0))
 
 pub returns : goal.returns
 returns c =
     let a = c.args in
-    step_taken a.desk a.memory.now a.line.now a.out.now (search rules) c.bytes_in-n.ensures.1 c.frame_of-frame.ensures
-    c.payload_in.ensures.0 c.act-done.ensures
+    step_taken a.desk a.memory.now a.line.now a.out.now (search rules) c.bytes_in-n.ensures.1 c.frame_of.ensures
+    c.payload_in.ensures.0 c.act-written.ensures

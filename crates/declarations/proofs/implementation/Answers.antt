@@ -1,4 +1,5 @@
 -- `declarations::implementation`.
+use Rattle.declarations.specs.Sections.{begun_by}
 use Rattle.std.specs.Prelude.{◌≡◌}
 use Rattle.common.specs.Words.{ap, ◌∙◌}
 use Rattle.words.specs.Kinds.{IMPLEMENTATION, DOT}
@@ -16,30 +17,29 @@ use Rattle.declarations.proofs.implementation.Goals as goal
 
 pub returns : goal.returns
 returns c =
-    let x = c in let b = x in let v = b in let d = v in
-    let f = d in let a = f.args in
+    let a = c.args in
     let p = a.text.now in let m = a.rows.now in let s = state_of p a.reading m in
-    let k = head (from p v.start_of-first.result) in let n = head (from p v.start_of-second.result) in
-    let behind : state_of p b.on.result m ≡ does s (quiet (implementation_head a.word)) =
+    let k = head (from p c.start_of-first.result) in let n = head (from p c.start_of-second.result) in
+    let behind : state_of p c.on.result m ≡ does s (quiet (implementation_head a.word)) =
     rw (
-      b.on.ensures,
-      b.name-2.ensures,
-      d.symbol-made.ensures,
-      d.name.ensures,
-      f.symbol-typed.ensures,
-      f.symbol.ensures,
+      c.on.ensures,
+      c.name-2.ensures,
+      c.symbol-made.ensures,
+      c.name.ensures,
+      c.symbol-typed.ensures,
+      c.symbol.ensures,
       implementation_head_then a.word s.went,
     )
     (does_quiet s (implementation_head a.word)) in
-    let typed : lift p f.symbol-typed.result ≡ s.went ⟫ the a.word ⟫ the IMPLEMENTATION =
-    rw (f.symbol-typed.ensures, f.symbol.ensures) in
-    let made : lift p d.symbol-made.result ≡ s.went ⟫ the a.word ⟫ the IMPLEMENTATION ⟫ name ⟫ the DOT =
-    rw (d.symbol-made.ensures, d.name.ensures, typed) in
-    let inner = state_of p x.sections-inner.result x.sections-inner.new.rows in
-    let ended : state_of p c.on-2.result x.sections-inner.new.rows ≡ does inner (quiet (implementation_end k n)) =
+    let typed : lift p c.symbol-typed.result ≡ s.went ⟫ the a.word ⟫ the IMPLEMENTATION =
+    rw (c.symbol-typed.ensures, c.symbol.ensures) in
+    let made : lift p c.symbol-made.result ≡ s.went ⟫ the a.word ⟫ the IMPLEMENTATION ⟫ name ⟫ the DOT =
+    rw (c.symbol-made.ensures, c.name.ensures, typed) in
+    let inner = state_of p c.sections-inner.result c.sections-inner.new.rows in
+    let ended : state_of p c.on-2.result c.sections-inner.new.rows ≡ does inner (quiet (implementation_end k n)) =
     rw (c.on-2.ensures, c.implementation_end.ensures) (does_quiet inner (implementation_end k n)) in
     ended ∙ ap (λ (t : State). does t (quiet (implementation_end k n)))
-    (x.sections-inner.ensures ∙ ap (λ (t : State). does t (sections a.of a.place)) behind)
-    ∙ implementation_does s a.word a.of a.place k n
-    (λ h. rw v.start_of-first.ensures (token_there p f.symbol-typed.result (rw typed h)) ∙ ap first typed)
-    (λ h. rw v.start_of-second.ensures (token_there p d.symbol-made.result (rw made h)) ∙ ap first made)
+    (c.sections-inner.ensures ∙ ap (λ (t : State). does t (sections (begun_by a.of) a.place)) behind)
+    ∙ implementation_does s a.word (begun_by a.of) a.place k n
+    (λ h. rw c.start_of-first.ensures (token_there p c.symbol-typed.result (rw typed h)) ∙ ap first typed)
+    (λ h. rw c.start_of-second.ensures (token_there p c.symbol-made.result (rw made h)) ∙ ap first made)

@@ -7,6 +7,6 @@ use Rattle.declarations.proofs.implementation_end.Goals as goal
 
 pub returns : goal.returns
 returns c =
-    let b = c in let d = b in let a = d.args in
-    rw (c.symbol-2.ensures, c.own-2.ensures, b.symbol-typed.ensures, b.own.ensures, d.symbol.ensures)
+    let a = c.args in
+    rw (c.symbol-2.ensures, c.own-2.ensures, c.symbol-typed.ensures, c.own.ensures, c.symbol.ensures)
     (implementation_end_then (head (from a.text.now a.first)) (head (from a.text.now a.second)) (lift a.text.now a.went))

@@ -1,6 +1,9 @@
 -- `declarations::properties_of`.
+use Rattle.declarations.specs.Sections.{begun_by}
 use Rattle.std.specs.Prelude.{◌≡◌}
-use Rattle.common.specs.Words.{ap, ◌∙◌}
+use Rattle.common.specs.Words.{refl, arith, ap, ◌∙◌}
+use Rattle.rows.specs.Rows.{a_process}
+use Rattle.declarations.specs.declared.Sort.{Sort}
 use Rattle.rows.specs.States.{State, state_of, does}
 use Rattle.rows.specs.Laws.{fresh, with_props, does_adding, stopped_stays}
 use Rattle.rows.specs.Said.{merged}
@@ -9,24 +12,28 @@ use Rattle.declarations.specs.Sections.{properties_of}
 use Rattle.declarations.specs.SectionLaws.{properties_noted, properties_added}
 use Rattle.declarations.proofs.properties_of.Goals as goal
 
-pub returns-then-of-eq-A_PROCESS : goal.returns-then-of-eq-A_PROCESS
-returns-then-of-eq-A_PROCESS c =
-    let a = c.args in
-    λ m. c.properties_in.ensures m ∙ properties_noted a.of (state_of a.text.now a.reading m) c.if-of-eq-A_PROCESS.true
+apart : (s : Sort) → (s ≡ Sort.Process → ⊥) → begun_by s ≡ a_process → ⊥
+apart Sort.Process n e = n refl
+apart Sort.Type n e = omega (arith, e)
+apart Sort.Implementation n e = omega (arith, e)
 
-pub returns-in_default : goal.returns-in_default
-returns-in_default c =
+pub returns-in-Process : goal.returns-in-Process
+returns-in-Process c =
     let a = c.args in
-    λ m. stopped_stays a.text.now a.reading m (properties_of a.of) _ c.in_default.is
+    λ m. c.properties_in.ensures m ∙ properties_noted (begun_by a.of) (state_of a.text.now a.reading m) (ap begun_by c.in-Process.is)
+
+pub returns-in_default-went : goal.returns-in_default-went
+returns-in_default-went c =
+    let a = c.args in
+    λ m. stopped_stays a.text.now a.reading m (properties_of (begun_by a.of)) _ c.in_default-went.is
 
 pub returns : goal.returns
 returns c =
-    let u = c in let v = u in let g = v in
-    let i = g in let a = i.args in
+    let a = c.args in
     λ m. let s = state_of a.text.now a.reading m in
-    let e : state_of a.text.now v.with_props.result m ≡ fresh s = rw v.with_props.ensures in
-    let f : state_of a.text.now u.properties_in-inner.result m ≡ does (fresh s) (properties_in of_thread) =
-    u.properties_in-inner.ensures m ∙ ap (λ (t : State). does t (properties_in of_thread)) e in
+    let e : state_of a.text.now c.with_props.result m ≡ fresh s = rw c.with_props.ensures in
+    let f : state_of a.text.now c.properties_in-inner.result m ≡ does (fresh s) (properties_in of_thread) =
+    c.properties_in-inner.ensures m ∙ ap (λ (t : State). does t (properties_in of_thread)) e in
     rw (c.with_props-2.ensures, c.merged.ensures)
     (ap (λ (t : State). with_props (merged s.props t.props) t) f
-    ∙ does_adding s (properties_in of_thread) (rw c.in-To.is) ∙ properties_added a.of s i.if-of-eq-A_PROCESS.false)
+    ∙ does_adding s (properties_in of_thread) (rw c.in-Ok.is) ∙ properties_added (begun_by a.of) s (apart a.of c.in_default.not-Process))

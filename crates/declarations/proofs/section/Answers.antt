@@ -1,5 +1,8 @@
 -- `declarations::section`.
-use Rattle.common.specs.Words.{sym, ◌∙◌}
+use Rattle.declarations.specs.Sections.{begun_by}
+use Rattle.words.specs.Kinds.{PROPERTIES}
+use Rattle.words.specs.Same.{told_eq}
+use Rattle.common.specs.Words.{◌∙◌}
 use Rattle.phrases.specs.Phrases.{skipped}
 use Rattle.rows.specs.States.{state_of}
 use Rattle.rows.specs.Laws.{does_quiet}
@@ -8,24 +11,24 @@ use Rattle.declarations.proofs.section.Goals as goal
 
 pub returns-then-begins_list : goal.returns-then-begins_list
 returns-then-begins_list c =
-    let u = c in let i = u in let k = i in let a = k.args in
+    let a = c.args in
     let s = state_of a.text.now a.reading a.rows.now in
-    u.list_in.ensures ∙ rw k.next_of-kind.ensures (section_list a.of a.place s
-    (rw (← k.next_of-kind.ensures, ← i.begins_list.ensures) i.if-begins_list.true))
+    c.list_in.ensures ∙ rw c.next_of-kind.ensures (section_list (begun_by a.of) a.place s
+    (rw (← c.next_of-kind.ensures, ← c.begins_list.ensures) c.if-begins_list.true))
 
-pub returns-then-kind-eq-PROPERTIES : goal.returns-then-kind-eq-PROPERTIES
-returns-then-kind-eq-PROPERTIES c =
-    let i = c in let k = i in let a = k.args in
+pub returns-then-eq : goal.returns-then-eq
+returns-then-eq c =
+    let a = c.args in
     let s = state_of a.text.now a.reading a.rows.now in
     c.properties_of.ensures a.rows.now
-    ∙ section_properties a.of a.place s (rw (← k.next_of-kind.ensures, ← i.begins_list.ensures) i.if-begins_list.false)
-    (sym k.next_of-kind.ensures ∙ c.if-kind-eq-PROPERTIES.true)
+    ∙ section_properties (begun_by a.of) a.place s (rw (← c.next_of-kind.ensures, ← c.begins_list.ensures) c.if-begins_list.false)
+    (told_eq PROPERTIES c.next_of-kind.ensures c.if-eq.ensures)
 
 pub returns : goal.returns
 returns c =
-    let i = c in let k = i in let a = k.args in
+    let a = c.args in
     let s = state_of a.text.now a.reading a.rows.now in
     rw (c.on.ensures, c.skipped.ensures)
     (does_quiet s skipped
-    ∙ section_skipped a.of a.place s (rw (← k.next_of-kind.ensures, ← i.begins_list.ensures) i.if-begins_list.false)
-    (λ e. c.if-kind-eq-PROPERTIES.false (k.next_of-kind.ensures ∙ e)))
+    ∙ section_skipped (begun_by a.of) a.place s (rw (← c.next_of-kind.ensures, ← c.begins_list.ensures) c.if-begins_list.false)
+    (told_eq PROPERTIES c.next_of-kind.ensures c.if-eq.ensures))

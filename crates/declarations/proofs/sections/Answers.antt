@@ -1,4 +1,5 @@
 -- `declarations::sections`: what is left to read says what the whole does.
+use Rattle.declarations.specs.Sections.{begun_by}
 use Rattle.common.specs.Words.{rules, refl, ap, ◌∙◌}
 use Rattle.rows.specs.States.{State, state_of}
 use Rattle.rows.specs.Laws.{repeat_on, repeat_off, repeat_less}
@@ -6,52 +7,40 @@ use Rattle.declarations.specs.Sections.{begins, section, sections}
 use Rattle.declarations.specs.SectionLaws.{begins_on, begins_off, section_advances}
 use Rattle.declarations.proofs.sections.Goals as goal
 
-pub loop-rows-init : goal.loop-rows-init
+pub loop-of-init : goal.loop-of-init
 unfolding sections
-loop-rows-init c = (refl, refl)
+loop-of-init c = (refl, refl)
 
-pub next_of-requires : goal.next_of-requires
+pub loop-of-smaller : goal.loop-of-smaller
 unfolding sections
-next_of-requires c = search rules
+loop-of-smaller c =
+    let a = c.args in
+    let s = state_of a.text.now c.loop-of.r c.loop-of.rows in
+    rw (ap (λ (x : State). x.went) c.section-r.ensures)
+    (repeat_less (begins (begun_by a.of)) (section (begun_by a.of) a.place) (section_advances (begun_by a.of) a.place) s
+    (begins_on (begun_by a.of) s.went (rw (← c.next_of.ensures, ← c.begins.ensures) c.loop-of-test.true)))
 
-pub begins-requires : goal.begins-requires
+pub loop-of-preserved : goal.loop-of-preserved
 unfolding sections
-begins-requires c = search rules
-
-pub section-r-requires : goal.section-r-requires
-unfolding sections
-section-r-requires c = search rules
-
-pub loop-rows-smaller : goal.loop-rows-smaller
-unfolding sections
-loop-rows-smaller c =
-    let f = c in let k = f in let l = k in let a = l.args in
-    let s = state_of a.text.now l.loop-rows.r l.loop-rows.rows in
-    rw (ap (λ (x : State). x.went) f.section-r.ensures)
-    (repeat_less (begins a.of) (section a.of a.place) (section_advances a.of a.place) s
-    (begins_on a.of s.went (rw (← k.next_of.ensures, ← k.begins.ensures) f.loop-rows-test.true)))
-
-pub loop-rows-preserved : goal.loop-rows-preserved
-unfolding sections
-loop-rows-preserved c =
-    let f = c in let k = f in let l = k in let a = l.args in
-    let s = state_of a.text.now l.loop-rows.r l.loop-rows.rows in (
-      rw f.section-r.ensures
-          (repeat_on (begins a.of) (section a.of a.place) (section_advances a.of a.place) s
-          (begins_on a.of s.went (rw (← k.next_of.ensures, ← k.begins.ensures) f.loop-rows-test.true))
-          ∙ l.loop-rows.invariant.0),
+loop-of-preserved c =
+    let a = c.args in
+    let s = state_of a.text.now c.loop-of.r c.loop-of.rows in (
+      rw c.section-r.ensures
+          (repeat_on (begins (begun_by a.of)) (section (begun_by a.of) a.place) (section_advances (begun_by a.of) a.place) s
+          (begins_on (begun_by a.of) s.went (rw (← c.next_of.ensures, ← c.begins.ensures) c.loop-of-test.true))
+          ∙ c.loop-of.invariant.0),
       search rules,
     )
 
 pub shape_of-rows : goal.shape_of-rows
 unfolding sections
-shape_of-rows c = c.loop-rows.invariant.1
+shape_of-rows c = c.loop-of.invariant.1
 
 pub returns : goal.returns
 unfolding sections
 returns c =
-    let k = c in let l = k in let a = l.args in
-    let s = state_of a.text.now l.loop-rows.r l.loop-rows.rows in
-    repeat_off (begins a.of) (section a.of a.place) (section_advances a.of a.place) s
-    (begins_off a.of s.went (rw (← k.next_of.ensures, ← k.begins.ensures) c.loop-rows-test.false))
-    ∙ l.loop-rows.invariant.0
+    let a = c.args in
+    let s = state_of a.text.now c.loop-of.r c.loop-of.rows in
+    repeat_off (begins (begun_by a.of)) (section (begun_by a.of) a.place) (section_advances (begun_by a.of) a.place) s
+    (begins_off (begun_by a.of) s.went (rw (← c.next_of.ensures, ← c.begins.ensures) c.loop-of-test.false))
+    ∙ c.loop-of.invariant.0

@@ -7,6 +7,6 @@ use Rattle.declarations.proofs.type_end.Goals as goal
 
 pub returns : goal.returns
 returns c =
-    let b = c in let a = b.args in
-    rw (c.symbol-2.ensures, c.own.ensures, b.symbol.ensures)
+    let a = c.args in
+    rw (c.symbol-2.ensures, c.own.ensures, c.symbol.ensures)
     (type_end_then (head (from a.text.now a.named)) (lift a.text.now a.went))

@@ -11,9 +11,9 @@ use Rattle.features.proofs.feature.Goals as goal
 
 pub returns : goal.returns
 returns c =
-    let u = c in let v = u in let a = v.args in
+    let a = c.args in
     let o = a.owner in let s = state_of a.text.now a.reading a.rows.now in
-    let labelled : state_of a.text.now u.on.result a.rows.now ≡ does s (quiet label) =
-    rw (u.on.ensures, u.label.ensures) (does_quiet s label) in
-    u.feature_of.ensures ∙ ap (λ (t : State). does t (feature_of o v.start_of-named.result)) labelled
-    ∙ rw v.start_of-named.ensures (feature_does o s)
+    let labelled : state_of a.text.now c.on.result a.rows.now ≡ does s (quiet label) =
+    rw (c.on.ensures, c.label.ensures) (does_quiet s label) in
+    c.feature_of.ensures ∙ ap (λ (t : State). does t (feature_of o c.start_of-named.result)) labelled
+    ∙ rw c.start_of-named.ensures (feature_does o s)

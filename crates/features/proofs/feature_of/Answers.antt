@@ -10,18 +10,17 @@ use Rattle.features.proofs.feature_of.Goals as goal
 
 pub returns-then-is_other_feature : goal.returns-then-is_other_feature
 returns-then-is_other_feature c =
-    let k = c in let a = k.args in
+    let a = c.args in
     let o = a.owner in let n = a.named in let s = state_of a.text.now a.reading a.rows.now in
     rw (c.on.ensures, c.word_and_rest.ensures)
-    (does_quiet s word_and_rest ∙ other_does o n s (rw (← k.next.ensures, ← k.is_other_feature.ensures)
+    (does_quiet s word_and_rest ∙ other_does o n s (rw (← c.next.ensures, ← c.is_other_feature.ensures)
     c.if-is_other_feature.true))
 
 pub returns : goal.returns
 returns c =
-    let u = c in let v = u in let k = v in
-    let a = k.args in
+    let a = c.args in
     let o = a.owner in let n = a.named in let s = state_of a.text.now a.reading a.rows.now in
-    let e : state_of a.text.now v.with_props-fresh.result a.rows.now ≡ fresh s = rw v.with_props-fresh.ensures in
+    let e : state_of a.text.now c.with_props-fresh.result a.rows.now ≡ fresh s = rw c.with_props-fresh.ensures in
     rw c.with_props.ensures
-    (ap (with_props s.props) (u.port.ensures ∙ ap (λ (t : State). does t (port o n)) e)
-    ∙ does_apart s (port o n) ∙ ported_does o n s (rw (← k.next.ensures, ← k.is_other_feature.ensures) v.if-is_other_feature.false))
+    (ap (with_props s.props) (c.port.ensures ∙ ap (λ (t : State). does t (port o n)) e)
+    ∙ does_apart s (port o n) ∙ ported_does o n s (rw (← c.next.ensures, ← c.is_other_feature.ensures) c.if-is_other_feature.false))

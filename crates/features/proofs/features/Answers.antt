@@ -13,36 +13,24 @@ pub loop-rows-init : goal.loop-rows-init
 unfolding features
 loop-rows-init c = (refl, refl)
 
-pub next_of-requires : goal.next_of-requires
-unfolding features
-next_of-requires c = search rules
-
-pub is_name-requires : goal.is_name-requires
-unfolding features
-is_name-requires c = search rules
-
-pub feature-r-requires : goal.feature-r-requires
-unfolding features
-feature-r-requires c = search rules
-
 pub loop-rows-smaller : goal.loop-rows-smaller
 unfolding features
 loop-rows-smaller c =
-    let f = c in let k = f in let l = k in let a = l.args in
-    let o = a.owner in let s = state_of a.text.now l.loop-rows.r l.loop-rows.rows in
-    rw (ap (λ (x : State). x.went) f.feature-r.ensures)
+    let a = c.args in
+    let o = a.owner in let s = state_of a.text.now c.loop-rows.r c.loop-rows.rows in
+    rw (ap (λ (x : State). x.went) c.feature-r.ensures)
     (repeat_less named (feature o) (advances_on named (feature o) (feature_moves o)) s
-    (kind_on is_name s.went refl (rw (← k.next_of.ensures, ← k.is_name.ensures) f.loop-rows-test.true)))
+    (kind_on is_name s.went refl (rw (← c.next_of.ensures, ← c.is_name.ensures) c.loop-rows-test.true)))
 
 pub loop-rows-preserved : goal.loop-rows-preserved
 unfolding features
 loop-rows-preserved c =
-    let f = c in let k = f in let l = k in let a = l.args in
-    let o = a.owner in let s = state_of a.text.now l.loop-rows.r l.loop-rows.rows in (
-      rw f.feature-r.ensures
+    let a = c.args in
+    let o = a.owner in let s = state_of a.text.now c.loop-rows.r c.loop-rows.rows in (
+      rw c.feature-r.ensures
           (repeat_on named (feature o) (advances_on named (feature o) (feature_moves o)) s
-          (kind_on is_name s.went refl (rw (← k.next_of.ensures, ← k.is_name.ensures) f.loop-rows-test.true))
-          ∙ l.loop-rows.invariant.0),
+          (kind_on is_name s.went refl (rw (← c.next_of.ensures, ← c.is_name.ensures) c.loop-rows-test.true))
+          ∙ c.loop-rows.invariant.0),
       search rules,
     )
 
@@ -53,8 +41,8 @@ shape_of-rows c = c.loop-rows.invariant.1
 pub returns : goal.returns
 unfolding features
 returns c =
-    let k = c in let l = k in let a = l.args in
-    let o = a.owner in let s = state_of a.text.now l.loop-rows.r l.loop-rows.rows in
+    let a = c.args in
+    let o = a.owner in let s = state_of a.text.now c.loop-rows.r c.loop-rows.rows in
     repeat_off named (feature o) (advances_on named (feature o) (feature_moves o)) s
-    (kind_off is_name s.went (rw (← k.next_of.ensures, ← k.is_name.ensures) c.loop-rows-test.false))
-    ∙ l.loop-rows.invariant.0
+    (kind_off is_name s.went (rw (← c.next_of.ensures, ← c.is_name.ensures) c.loop-rows-test.false))
+    ∙ c.loop-rows.invariant.0

@@ -5,5 +5,5 @@ use Rattle.features.proofs.port_head.Goals as goal
 
 pub returns : goal.returns
 returns c =
-    let k = c in let a = k.args in
-    rw (c.maybe_classifier.ensures, c.port_kind.ensures, k.direction.ensures) (head_then (lift a.text.now a.went))
+    let a = c.args in
+    rw (c.maybe_classifier.ensures, c.port_kind.ensures, c.direction.ensures) (head_then (lift a.text.now a.went))

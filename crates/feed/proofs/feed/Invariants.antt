@@ -1,23 +1,19 @@
 -- `feed::feed`: the lines that end in the block take their turns. Both arms start from the frame of a line, and show only that what
--- they did is the turn of the line's bytes; that the loop goes on from there is said once for both. The loop's desk is the one with the
--- columns that lie beside it.
+-- they did is the turn of the line's bytes; that the loop goes on from there is said once for both.
 use Rattle.std.specs.Prelude.{◌≡◌, ◌-◌}
 use Rattle.common.specs.Words.{length}
 use Rattle.digits.specs.Hex.{most_bytes}
-use Rattle.desk.specs.Desk.{with_state}
-use Rattle.calls.specs.Leaves.{state_of}
 use Rattle.window.specs.Window.{Remembers}
+use Rattle.lines.specs.Carried.{carried}
 use Rattle.feed.specs.Outcome.{console_of, fed_from}
 use Rattle.feed.specs.Turns.{Underway}
 use Rattle.feed.proofs.feed.Given as goal
 
 abbrev pub invariant-loop-out : goal.invariant-loop-out
 invariant-loop-out l =
-    Underway (fed_from (console_of l.initial.d l.initial.memory) l.initial.held l.used l.piece l.from l.initial.out) l.piece l.from l.initial.held
-    l.initial.out l.memory l.held l.out
-    (with_state l.d (state_of l.tick l.sent l.reading)) l.u l.at l.w
-    × (length l.memory ≡ length l.initial.memory) × Remembers l.d.plan l.remembered × (length l.bytes ≡ most_bytes)
+    Underway (fed_from (console_of l.initial.desk l.initial.memory) (carried l.initial.carry) l.piece l.from l.initial.out) l.piece l.from
+    l.initial.out l.memory l.out l.desk l.carry l.at l.w
+    × Remembers l.desk.plan l.remembered × (length l.bytes ≡ most_bytes)
 
 abbrev pub decreases-loop-out : goal.decreases-loop-out
-decreases-loop-out l =
-    length l.piece - l.at
+decreases-loop-out l = length l.piece - l.at

@@ -1,18 +1,15 @@
--- `kit::figure`: its own, or else what stands in its place.
-use Rattle.common.specs.Words.{eq-eqb, ne_eqb}
-use Rattle.kit.specs.Kit.{figure_of}
+-- `kit::figure`: its own, or what stands in its place.
+use Rattle.common.specs.Words.{ap, ◌∙◌}
+use Rattle.index.specs.Options.{said_some, said_none, value_or_none}
+use Rattle.kit.specs.Kit.{said_by, figure_of}
 use Rattle.kit.proofs.figure.Goals as goal
 
-pub returns-then-own-eq0 : goal.returns-then-own-eq0
+pub returns-in-Some : goal.returns-in-Some
 unfolding figure_of
-returns-then-own-eq0 c =
-    let i = c in
-    let o = i in
-    rw (← o.property_of-own.ensures, eq-eqb _ _ i.if-own-eq0.true, ← i.instead_of-instead.ensures.0, ← c.property_of.ensures)
-    c.said_by.ensures
+returns-in-Some c = c.said_by.ensures ∙ ap said_by (said_some _ _ c.in-Some.ensures)
 
-pub returns : goal.returns
+pub returns-in-None : goal.returns-in-None
 unfolding figure_of
-returns c =
-    let o = c in
-    rw (← o.property_of-own.ensures, ne_eqb _ _ c.if-own-eq0.false) c.said_by-2.ensures
+returns-in-None c =
+    let instead = rw (c.property_of-instead.ensures, value_or_none, c.instead_of.ensures.0) at c.unwrap_or.ensures in
+    c.said_by-in-None.ensures ∙ ap said_by (instead ∙ said_none _ _ c.in-None.ensures)

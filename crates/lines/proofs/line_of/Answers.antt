@@ -15,5 +15,5 @@ returns-then-n-gt0 c = search tests
 pub returns : goal.returns
 returns c =
     let a = c.args in
-    let e : a.from + c.least.result - a.from ≡ min carry_limit (a.to - a.from) = search rules in
+    let e : a.from + c.min.result - a.from ≡ min carry_limit (a.to - a.from) = search rules in
     rw (e, le-ltb 0 a.n c.if-n-gt0.false) (sym (cut_take (a.to - a.from) (drop a.from a.piece.now)), refl)

@@ -10,19 +10,18 @@ use Rattle.links.proofs.connection_of.Goals as goal
 
 pub returns-then-is_other_kind : goal.returns-then-is_other_kind
 returns-then-is_other_kind c =
-    let k = c in let a = k.args in
+    let a = c.args in
     let o = a.process in let n = a.named in let s = state_of a.text.now a.reading a.rows.now in
     rw (c.on.ensures, c.word_and_rest.ensures)
     (does_quiet s word_and_rest ∙ other_does o a.start n s
-    (rw (← k.next.ensures, ← k.second.ensures, ← k.is_other_kind.ensures) c.if-is_other_kind.true))
+    (rw (← c.next.ensures, ← c.second.ensures, ← c.is_other_kind.ensures) c.if-is_other_kind.true))
 
 pub returns : goal.returns
 returns c =
-    let u = c in let v = u in let k = v in
-    let a = k.args in
+    let a = c.args in
     let o = a.process in let n = a.named in let s = state_of a.text.now a.reading a.rows.now in
-    let e : state_of a.text.now v.with_props-fresh.result a.rows.now ≡ fresh s = rw v.with_props-fresh.ensures in
+    let e : state_of a.text.now c.with_props-fresh.result a.rows.now ≡ fresh s = rw c.with_props-fresh.ensures in
     rw c.with_props.ensures
-    (ap (with_props s.props) (u.link.ensures ∙ ap (λ (t : State). does t (link o a.start n)) e)
+    (ap (with_props s.props) (c.link.ensures ∙ ap (λ (t : State). does t (link o a.start n)) e)
     ∙ does_apart s (link o a.start n) ∙ between_does o a.start n s
-    (rw (← k.next.ensures, ← k.second.ensures, ← k.is_other_kind.ensures) v.if-is_other_kind.false))
+    (rw (← c.next.ensures, ← c.second.ensures, ← c.is_other_kind.ensures) c.if-is_other_kind.false))

@@ -14,35 +14,34 @@ use Rattle.links.proofs.link.Goals as goal
 
 pub returns-then-not-between : goal.returns-then-not-between
 returns-then-not-between c =
-    let w = c in let h = w in let e = h in let a = e.args in
+    let a = c.args in
     let p = a.text.now in let m = a.rows.now in let s = state_of p a.reading m in
-    let behind : state_of p h.on-head.result m ≡ does s (quiet (λ us. ends (On us))) =
-    rw (h.on-head.ensures, e.ends_of-ends.ensures.went, ends_does s.went) (does_quiet s (λ us. ends (On us))) in
-    let told : e.ends_of-ends.result.pointed ≡ false = c.if-not-between.true in
-    w.symbol_on-whole.ensures m ∙ ap (λ (t : State). does t (quiet (the SEMICOLON))) (w.maybe_block_in.ensures m
+    let behind : state_of p c.on-head.result m ≡ does s (quiet (λ us. ends (On us))) =
+    rw (c.on-head.ensures, c.ends_of-ends.ensures.went, ends_does s.went) (does_quiet s (λ us. ends (On us))) in
+    let told : c.ends_of-ends.result.pointed ≡ false = c.if-not-between.true in
+    c.symbol_on-whole.ensures m ∙ ap (λ (t : State). does t (quiet (the SEMICOLON))) (c.maybe_block_in.ensures m
     ∙ ap (λ (t : State). does t (maybe_block_in of_port)) behind)
-    ∙ link_passed a.process a.start a.named s (sym e.ends_of-ends.ensures.both ∙ told)
+    ∙ link_passed a.process a.start a.named s (sym c.ends_of-ends.ensures.both ∙ told)
 
 pub returns : goal.returns
 unfolding link_row
 returns c =
-    let u = c in let v = u in let i = v in
-    let w = i in let h = w in let e = h in let a = e.args in
+    let a = c.args in
     let p = a.text.now in let m = a.rows.now in let s = state_of p a.reading m in
     let item : List ℕ → Row = linked a.process a.start a.named s.went in
-    let behind : state_of p h.on-head.result m ≡ does s (quiet (λ us. ends (On us))) =
-    rw (h.on-head.ensures, e.ends_of-ends.ensures.went, ends_does s.went) (does_quiet s (λ us. ends (On us))) in
-    let told : e.ends_of-ends.result.pointed ≡ true = i.if-not-between.false in
-    u.put.ensures p item
+    let behind : state_of p c.on-head.result m ≡ does s (quiet (λ us. ends (On us))) =
+    rw (c.on-head.ensures, c.ends_of-ends.ensures.went, ends_does s.went) (does_quiet s (λ us. ends (On us))) in
+    let told : c.ends_of-ends.result.pointed ≡ true = c.if-not-between.false in
+    c.put.ensures p item
     (rw (
-      v.timing_of.ensures,
-      e.ends_of-ends.ensures.sender,
-      e.ends_of-ends.ensures.out,
-      e.ends_of-ends.ensures.receiver,
-      e.ends_of-ends.ensures.into,
-      e.ends_of-ends.ensures.delayed,
+      c.timing_of.ensures,
+      c.ends_of-ends.ensures.sender,
+      c.ends_of-ends.ensures.out,
+      c.ends_of-ends.ensures.receiver,
+      c.ends_of-ends.ensures.into,
+      c.ends_of-ends.ensures.delayed,
     ))
     ∙ ap (λ (t : State). does t (put item))
-    (w.symbol_on-whole.ensures m ∙ ap (λ (t : State). does t (quiet (the SEMICOLON))) (w.maybe_block_in.ensures m
+    (c.symbol_on-whole.ensures m ∙ ap (λ (t : State). does t (quiet (the SEMICOLON))) (c.maybe_block_in.ensures m
     ∙ ap (λ (t : State). does t (maybe_block_in of_port)) behind))
-    ∙ link_between a.process a.start a.named s (sym e.ends_of-ends.ensures.both ∙ told)
+    ∙ link_between a.process a.start a.named s (sym c.ends_of-ends.ensures.both ∙ told)

@@ -4,11 +4,12 @@ use Rattle.feed.specs.Answers.{console_after}
 use Rattle.mulchpenny.specs.Laws.{last_block}
 use Rattle.mulchpenny.proofs.answer_last.Goals as goal
 
-pub returns-then-used-eq0 : goal.returns-then-used-eq0
+pub returns-then-carry-eq0 : goal.returns-then-carry-eq0
 unfolding console_after
-returns-then-used-eq0 c = rw c.if-used-eq0.true (record { console = refl; nothing_left = refl })
+returns-then-carry-eq0 c = rw c.if-carry-eq0.true (record { console = refl; nothing_left = refl })
 
 pub returns : goal.returns
 returns c =
-    let n = length-take-le c.args.used c.args.held.now (omega (arith, c.requires.0, c.requires.1)) in
-    last_block (rw n (omega (arith, c.if-used-eq0.false))) c.answer_block.ensures.block_gives
+    let k = c.args.carry.now in
+    let n = length-take-le k.used k.held (omega (arith, k.within, k.room)) in
+    last_block (rw n (omega (arith, c.if-carry-eq0.false))) c.answer_block.ensures.block_gives

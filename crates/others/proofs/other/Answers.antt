@@ -11,13 +11,13 @@ use Rattle.others.proofs.other.Goals as goal
 
 pub returns : goal.returns
 returns c =
-    let b = c in let k = b in let a = k.args in
+    let a = c.args in
     λ m. let s = state_of a.text.now a.reading m in
-    let inner = state_of a.text.now b.passed-inner.result m in
-    let first : state_of a.text.now b.on.result m ≡ does s (quiet any) =
-    rw (b.on.ensures, b.any.ensures) (does_quiet s any) in
+    let inner = state_of a.text.now c.passed-inner.result m in
+    let first : state_of a.text.now c.on.result m ≡ does s (quiet any) =
+    rw (c.on.ensures, c.any.ensures) (does_quiet s any) in
     rw (c.on-2.ensures, c.path_end.ensures)
     (does_quiet inner path_end
-    ∙ ap (λ (t : State). does t (quiet path_end)) (b.passed-inner.ensures m
-    ∙ ap (λ (t : State). does t (passing k.is_outside-outside.result [])) first)
-    ∙ other_does s k.is_outside-outside.result (k.is_outside-outside.ensures ∙ ap outside_kind k.next_of.ensures))
+    ∙ ap (λ (t : State). does t (quiet path_end)) (c.passed-inner.ensures m
+    ∙ ap (λ (t : State). does t (passing c.is_outside-outside.result [])) first)
+    ∙ other_does s c.is_outside-outside.result (c.is_outside-outside.ensures ∙ ap outside_kind c.next_of.ensures))

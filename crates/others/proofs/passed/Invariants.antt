@@ -1,7 +1,7 @@
 -- `others::passed`: what is left to pass says what the whole does, with the least of the words that wait.
 use Rattle.std.specs.Prelude.{◌≡◌}
 use Rattle.common.specs.Words.{ℕ, List, []}
-use Rattle.steps.specs.declared.Fault.{Fault}
+use Rattle.steps.specs.declared.faults.Fault.{Fault}
 use Rattle.steps.specs.Faults.{no_fault, worst}
 use Rattle.steps.specs.Lifted.{lift, size}
 use Rattle.rows.specs.States.{state_of, does}

@@ -5,5 +5,5 @@ use Rattle.others.proofs.path_end.Goals as goal
 
 pub returns : goal.returns
 returns c =
-    let b = c in let a = b.args in
-    rw (c.symbol-2.ensures, c.path.ensures, b.symbol.ensures) (path_end_then (lift a.text.now a.went))
+    let a = c.args in
+    rw (c.symbol-2.ensures, c.path.ensures, c.symbol.ensures) (path_end_then (lift a.text.now a.went))

@@ -1,15 +1,16 @@
 -- `phrases::arrow`.
-use Rattle.common.specs.Words.{sym, ◌∙◌}
+use Rattle.words.specs.Kinds.{DELAYING}
+use Rattle.words.specs.Same.{told_eq}
 use Rattle.steps.specs.Lifted.{lift}
 use Rattle.phrases.specs.Laws.{arrow_delaying, arrow_plain}
 use Rattle.phrases.proofs.arrow.Goals as goal
 
-pub returns-then-next-eq-DELAYING : goal.returns-then-next-eq-DELAYING
-returns-then-next-eq-DELAYING c =
+pub returns-then-eq : goal.returns-then-eq
+returns-then-eq c =
     let n = c in let a = n.args in
-    rw c.symbol.ensures (arrow_delaying (lift a.text.now a.went) (sym n.next.ensures ∙ c.if-next-eq-DELAYING.true))
+    rw c.symbol.ensures (arrow_delaying (lift a.text.now a.went) (told_eq DELAYING n.next.ensures c.if-eq.ensures))
 
 pub returns : goal.returns
 returns c =
     let n = c in let a = n.args in
-    rw c.symbol-2.ensures (arrow_plain (lift a.text.now a.went) (λ e. c.if-next-eq-DELAYING.false (n.next.ensures ∙ e)))
+    rw c.symbol-2.ensures (arrow_plain (lift a.text.now a.went) (told_eq DELAYING n.next.ensures c.if-eq.ensures))

@@ -1,17 +1,17 @@
 -- `phrases::maybe_block`.
-use Rattle.common.specs.Words.{sym, ◌∙◌}
+use Rattle.words.specs.Same.{told_eq}
 use Rattle.words.specs.Kinds.{OPEN_BRACE}
 use Rattle.steps.specs.Lifted.{lift}
 use Rattle.values.specs.Values.{block}
 use Rattle.phrases.specs.Laws.{maybe_on, maybe_off}
 use Rattle.phrases.proofs.maybe_block.Goals as goal
 
-pub returns-then-next-eq-OPEN_BRACE : goal.returns-then-next-eq-OPEN_BRACE
-returns-then-next-eq-OPEN_BRACE c =
+pub returns-then-eq : goal.returns-then-eq
+returns-then-eq c =
     let n = c in let a = n.args in
-    rw c.block.ensures (maybe_on OPEN_BRACE block (lift a.text.now a.went) (sym n.next.ensures ∙ c.if-next-eq-OPEN_BRACE.true))
+    rw c.block.ensures (maybe_on OPEN_BRACE block (lift a.text.now a.went) (told_eq OPEN_BRACE n.next.ensures c.if-eq.ensures))
 
 pub returns : goal.returns
 returns c =
     let n = c in let a = n.args in
-    maybe_off OPEN_BRACE block (lift a.text.now a.went) (λ e. c.if-next-eq-OPEN_BRACE.false (n.next.ensures ∙ e))
+    maybe_off OPEN_BRACE block (lift a.text.now a.went) (told_eq OPEN_BRACE n.next.ensures c.if-eq.ensures)

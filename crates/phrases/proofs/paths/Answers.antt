@@ -1,5 +1,6 @@
 -- `phrases::paths`: what is left to pass ends where the whole does.
-use Rattle.common.specs.Words.{arith, refl, sym, ◌∙◌}
+use Rattle.words.specs.Same.{told_eq}
+use Rattle.common.specs.Words.{refl, ◌∙◌}
 use Rattle.words.specs.Kinds.{COMMA}
 use Rattle.steps.specs.Steps.{is, the}
 use Rattle.steps.specs.Lifted.{lift}
@@ -15,18 +16,18 @@ pub loop-w-smaller : goal.loop-w-smaller
 loop-w-smaller c =
     let k = c in let l = k in let s = lift l.args.text.now l.loop-w.w in
     rw (c.path-w-in-loop-w.ensures, c.symbol.ensures, then_then s (the COMMA) path)
-    (many_less (is COMMA) another another_advances s (is_on COMMA s (λ e. omega arith) (sym k.next.ensures ∙ k.loop-w-test.true)))
+    (many_less (is COMMA) another another_advances s (is_on COMMA s refl (told_eq COMMA k.next.ensures k.loop-w-test.ensures)))
 
 pub loop-w-preserved : goal.loop-w-preserved
 loop-w-preserved c =
     let k = c in let l = k in let s = lift l.args.text.now l.loop-w.w in
     rw (c.path-w-in-loop-w.ensures, c.symbol.ensures, then_then s (the COMMA) path)
-    (many_on (is COMMA) another another_advances s (is_on COMMA s (λ e. omega arith) (sym k.next.ensures ∙ k.loop-w-test.true))
+    (many_on (is COMMA) another another_advances s (is_on COMMA s refl (told_eq COMMA k.next.ensures k.loop-w-test.ensures))
     ∙ l.loop-w.invariant)
 
 pub returns : goal.returns
 returns c =
     let k = c in let l = k in let a = l.args in let s = lift a.text.now l.loop-w.w in
-    let h = is_off COMMA s (λ e. k.loop-w-test.false (k.next.ensures ∙ e)) in
+    let h = is_off COMMA s (told_eq COMMA k.next.ensures k.loop-w-test.ensures) in
     rw (c.symbol-2.ensures, many_off (is COMMA) another another_advances s h ∙ l.loop-w.invariant, l.path-w.ensures)
     (paths_then (lift a.text.now a.went))

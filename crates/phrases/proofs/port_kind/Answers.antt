@@ -1,17 +1,18 @@
 -- `phrases::port_kind`.
-use Rattle.common.specs.Words.{sym, ◌∙◌}
+use Rattle.words.specs.Kinds.{DATA}
+use Rattle.words.specs.Same.{told_eq}
 use Rattle.steps.specs.Lifted.{lift}
 use Rattle.phrases.specs.Laws.{port_data, port_event}
 use Rattle.phrases.proofs.port_kind.Goals as goal
 
-pub returns-then-next-eq-DATA : goal.returns-then-next-eq-DATA
-returns-then-next-eq-DATA c =
+pub returns-then-eq : goal.returns-then-eq
+returns-then-eq c =
     let n = c in let a = n.args in
-    rw (c.symbol-then-next-eq-DATA.ensures, c.symbol.ensures)
-    (port_data (lift a.text.now a.went) (sym n.next.ensures ∙ c.if-next-eq-DATA.true))
+    rw (c.symbol-then-eq.ensures, c.symbol.ensures)
+    (port_data (lift a.text.now a.went) (told_eq DATA n.next.ensures c.if-eq.ensures))
 
 pub returns : goal.returns
 returns c =
     let k = c in let n = k in let a = n.args in
     rw (c.symbol-3.ensures, k.maybe.ensures, k.symbol-2.ensures)
-    (port_event (lift a.text.now a.went) (λ e. k.if-next-eq-DATA.false (n.next.ensures ∙ e)))
+    (port_event (lift a.text.now a.went) (told_eq DATA n.next.ensures k.if-eq.ensures))

@@ -1,5 +1,6 @@
 -- `phrases::scopes`: what is left to pass ends where the whole does.
-use Rattle.common.specs.Words.{refl, sym, ◌∙◌}
+use Rattle.words.specs.Same.{told_eq}
+use Rattle.common.specs.Words.{refl, ◌∙◌}
 use Rattle.words.specs.Kinds.{SCOPE}
 use Rattle.steps.specs.Steps.{the, name}
 use Rattle.steps.specs.Lifted.{lift}
@@ -15,16 +16,16 @@ pub loop-w-smaller : goal.loop-w-smaller
 loop-w-smaller c =
     let k = c in let l = k in let s = lift l.args.text.now l.loop-w.w in
     rw (c.symbol-w.ensures, c.name.ensures, then_then s name (the SCOPE))
-    (many_less begins_scope scope scope_advances s (scope_on s (sym k.second.ensures ∙ k.loop-w-test.true)))
+    (many_less begins_scope scope scope_advances s (scope_on s (told_eq SCOPE k.second.ensures k.loop-w-test.ensures)))
 
 pub loop-w-preserved : goal.loop-w-preserved
 loop-w-preserved c =
     let k = c in let l = k in let s = lift l.args.text.now l.loop-w.w in
     rw (c.symbol-w.ensures, c.name.ensures, then_then s name (the SCOPE))
-    (many_on begins_scope scope scope_advances s (scope_on s (sym k.second.ensures ∙ k.loop-w-test.true)) ∙ l.loop-w.invariant)
+    (many_on begins_scope scope scope_advances s (scope_on s (told_eq SCOPE k.second.ensures k.loop-w-test.ensures)) ∙ l.loop-w.invariant)
 
 pub returns : goal.returns
 unfolding scopes
 returns c =
     let l = c in let s = lift l.args.text.now l.loop-w.w in
-    many_off begins_scope scope scope_advances s (scope_off s (λ e. c.loop-w-test.false (c.second.ensures ∙ e))) ∙ l.loop-w.invariant
+    many_off begins_scope scope scope_advances s (scope_off s (told_eq SCOPE c.second.ensures c.loop-w-test.ensures)) ∙ l.loop-w.invariant

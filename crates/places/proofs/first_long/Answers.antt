@@ -1,31 +1,17 @@
--- `places::first_long`: no queue below the loop's counter is bad.
-use Rattle.std.specs.Prelude.{◌≡◌}
-use Rattle.common.specs.Words.{sym, rules}
-use Rattle.common.proofs.Rows.{first_bad_none, first_bad_more, first_bad_found}
-use Rattle.plan.specs.Sound.{checked_usable}
+-- `places::first_long`: what the search finds is the first queue that is too long.
+use Rattle.std.specs.Prelude.{◌&&◌, ◌≡◌}
+use Rattle.common.specs.Words.{ℕ, true, false, rules}
+use Rattle.common.specs.Tests.{tests}
+use Rattle.std.proofs.lemmas.Iterator.{first_from_Range}
+use Rattle.rules.proofs.Found.{found}
+use Rattle.sizing.specs.Cycle.{cycle_short, messages_few}
 use Rattle.places.specs.Places.{long_queue}
 use Rattle.places.proofs.first_long.Goals as goal
-
-pub loop-q-init : goal.loop-q-init
-loop-q-init c = search (rules, first_bad_none)
-
-pub cycle_good-requires : goal.cycle_good-requires
-cycle_good-requires c = checked_usable c.requires c.loop-q.q (search rules)
-
-pub returns-then-not-cycle_good : goal.returns-then-not-cycle_good
-unfolding long_queue
-returns-then-not-cycle_good c =
-    let l = c.loop-q in
-    sym (first_bad_found _ l.q _ (search rules) l.invariant.1 (rw (← c.cycle_good.ensures) c.if-not-cycle_good.true))
-
-pub loop-q-preserved : goal.loop-q-preserved
-loop-q-preserved c =
-    let l = c.loop-q in
-    (search rules, first_bad_more _ l.q l.invariant.1 (rw (← c.cycle_good.ensures) c.if-not-cycle_good.false))
 
 pub returns : goal.returns
 unfolding long_queue
 returns c =
-    let l = c.loop-q in
-    let e : l.q ≡ c.args.table.queues = search rules in
-    sym (rw e at l.invariant.1)
+    let good = λ (q : ℕ). cycle_short c.args.table.now q && messages_few c.args.table.now q in
+    found good _ _
+    (first_from_Range _ _ _ _ (λ i. good i ≡ false) (λ i. good i ≡ true) c.find.ensures.ran (λ x q k. search (rules, tests))
+    (λ x q k. search (rules, tests)))

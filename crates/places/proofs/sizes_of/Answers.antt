@@ -1,19 +1,13 @@
--- `places::sizes_of` fills its array from the front.
-use Rattle.std.specs.Prelude.{◌≡◌}
+-- `places::sizes_of`: the array is made queue by queue.
+use Rattle.common.specs.Words.{ltb}
+use Rattle.common.specs.Tests.{tests}
+use Rattle.common.specs.Totals.{only}
 use Rattle.common.specs.Words.{rules}
-use Rattle.common.specs.Table.{table_none, table_more, table_all}
+use Rattle.plan.proofs.Made.{made}
+use Rattle.places.specs.Places.{least_size}
 use Rattle.places.proofs.sizes_of.Goals as goal
-
-pub loop-q-init : goal.loop-q-init
-loop-q-init c = search (rules, table_none)
-
-pub loop-q-preserved : goal.loop-q-preserved
-loop-q-preserved c =
-    let l = c.loop-q in
-    (search rules, search rules, rw c.size_of.ensures (table_more _ l.out l.q (search rules) l.invariant.2))
 
 pub returns : goal.returns
 returns c =
-    let l = c.loop-q in
-    let e : l.q ≡ 8 = search rules in
-    table_all _ l.out 8 l.invariant.1 (rw e at l.invariant.2)
+    made _ _ (λ q. only (ltb q c.args.table.now.queues) (least_size c.args.table.now q)) 0 8 c.from_fn.ensures.items
+    (λ i y q l k. search (rules, tests))

@@ -1,11 +1,6 @@
 -- `plain::mark_rest`.
-use Rattle.common.specs.Words.{rules}
 use Rattle.plain.specs.Plain.{mark_rest}
 use Rattle.plain.proofs.mark_rest.Goals as goal
-
-pub three_at-requires : goal.three_at-requires
-unfolding mark_rest
-three_at-requires c = search rules
 
 pub returns-then-three_at : goal.returns-then-three_at
 unfolding mark_rest

@@ -5,10 +5,7 @@ use Rattle.plain.proofs.two_at.Goals as goal
 
 pub returns-then-byte_at-a : goal.returns-then-byte_at-a
 returns-then-byte_at-a c =
-    let a = c.args in
-    rw (two_at a.text.now a.at a.a a.b, ← c.byte_at.ensures) (search tests)
+    rw (two_at c.args.text.now c.args.at c.args.a c.args.b, ← c.byte_at.ensures, ← c.byte_at-then-byte_at-a.ensures) (search tests)
 
-pub returns : goal.returns
-returns c =
-    let a = c.args in
-    rw (two_at a.text.now a.at a.a a.b, ← c.byte_at.ensures, ← c.byte_at-2.ensures) (search tests)
+pub returns-else-byte_at-a : goal.returns-else-byte_at-a
+returns-else-byte_at-a c = rw (two_at c.args.text.now c.args.at c.args.a c.args.b, ← c.byte_at.ensures) (search tests)

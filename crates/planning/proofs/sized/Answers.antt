@@ -10,22 +10,22 @@ use Rattle.planning.proofs.sized.Goals as goal
 
 pub total_of-requires : goal.total_of-requires
 total_of-requires c =
-    (c.requires.0.queues_fit, rw c.sizes_of-sizes.ensures (sizes_small c.requires.0))
+    (c.requires.0.queues_fit, rw c.sizes_of-size.ensures (sizes_small c.requires.0))
 
 pub returns-then-total_of-gt-MOST_SLOTS : goal.returns-then-total_of-gt-MOST_SLOTS
 unfolding slots_judged
 returns-then-total_of-gt-MOST_SLOTS c =
-    let e = rw (c.sizes_of-sizes.ensures, total_is c.requires.0) at c.total_of.ensures in
+    let e = rw (c.sizes_of-size.ensures, total_is c.requires.0) at c.total_of.ensures in
     let h : most_slots < sum (least_size c.args.table) c.args.table.queues = rw e at c.if-total_of-gt-MOST_SLOTS.true in
     rw (lt-ltb _ _ h) c.refused.ensures
 
-pub places_of-places-requires : goal.places_of-places-requires
-places_of-places-requires c =
-    rw c.sizes_of-sizes.ensures (sizes_small c.requires.0)
+pub places_of-place-requires : goal.places_of-place-requires
+places_of-place-requires c =
+    rw c.sizes_of-size.ensures (sizes_small c.requires.0)
 
 pub returns : goal.returns
 unfolding slots_judged sized
 returns c =
-    let e = rw (c.sizes_of-sizes.ensures, total_is c.requires.0) at c.total_of.ensures in
+    let e = rw (c.sizes_of-size.ensures, total_is c.requires.0) at c.total_of.ensures in
     let h : sum (least_size c.args.table) c.args.table.queues ≤ most_slots = rw e at c.if-total_of-gt-MOST_SLOTS.false in
-    rw (le-ltb _ _ h, c.places_of-places.ensures, c.sizes_of-sizes.ensures)
+    rw (le-ltb _ _ h, c.places_of-place.ensures, c.sizes_of-size.ensures)

@@ -9,9 +9,9 @@ use Rattle.properties.specs.Properties.{association_in, associations_in}
 use Rattle.properties.specs.Laws.{association_in_moves}
 use Rattle.properties.proofs.associations_in.Goals as goal
 
-pub loop-r-init : goal.loop-r-init
+pub loop-of-init : goal.loop-of-init
 unfolding associations_in
-loop-r-init c = λ m. refl
+loop-of-init c = λ m. refl
 
 pub next_of-requires : goal.next_of-requires
 unfolding associations_in
@@ -25,27 +25,27 @@ pub association_in-r-requires : goal.association_in-r-requires
 unfolding associations_in
 association_in-r-requires c = search rules
 
-pub loop-r-smaller : goal.loop-r-smaller
+pub loop-of-smaller : goal.loop-of-smaller
 unfolding associations_in
-loop-r-smaller c =
-    let k = c in let l = k in let a = l.args in let s = state_of a.text.now l.loop-r.r [] in
+loop-of-smaller c =
+    let k = c in let l = k in let a = l.args in let s = state_of a.text.now l.loop-of.r [] in
     rw (ap (λ (x : State). x.went) (c.association_in-r.ensures []))
     (repeat_less named (association_in a.of) (advances_on named (association_in a.of) (association_in_moves a.of)) s
-    (kind_on is_name s.went refl (rw (← k.next_of.ensures, ← k.is_name.ensures) c.loop-r-test.true)))
+    (kind_on is_name s.went refl (rw (← k.next_of.ensures, ← k.is_name.ensures) c.loop-of-test.true)))
 
-pub loop-r-preserved : goal.loop-r-preserved
+pub loop-of-preserved : goal.loop-of-preserved
 unfolding associations_in
-loop-r-preserved c =
+loop-of-preserved c =
     let k = c in let l = k in let a = l.args in
-    λ m. let s = state_of a.text.now l.loop-r.r m in
+    λ m. let s = state_of a.text.now l.loop-of.r m in
     rw (c.association_in-r.ensures m)
     (repeat_on named (association_in a.of) (advances_on named (association_in a.of) (association_in_moves a.of)) s
-    (kind_on is_name s.went refl (rw (← k.next_of.ensures, ← k.is_name.ensures) c.loop-r-test.true)) ∙ l.loop-r.invariant m)
+    (kind_on is_name s.went refl (rw (← k.next_of.ensures, ← k.is_name.ensures) c.loop-of-test.true)) ∙ l.loop-of.invariant m)
 
 pub returns : goal.returns
 unfolding associations_in
 returns c =
     let k = c in let l = k in let a = l.args in
-    λ m. let s = state_of a.text.now l.loop-r.r m in
+    λ m. let s = state_of a.text.now l.loop-of.r m in
     repeat_off named (association_in a.of) (advances_on named (association_in a.of) (association_in_moves a.of)) s
-    (kind_off is_name s.went (rw (← k.next_of.ensures, ← k.is_name.ensures) c.loop-r-test.false)) ∙ l.loop-r.invariant m
+    (kind_off is_name s.went (rw (← k.next_of.ensures, ← k.is_name.ensures) c.loop-of-test.false)) ∙ l.loop-of.invariant m

@@ -8,9 +8,9 @@ use Rattle.rows.specs.States.{state_of, does}
 use Rattle.properties.specs.Properties.{association_in}
 use Rattle.properties.proofs.associations_in.Given as goal
 
-abbrev pub invariant-loop-r : goal.invariant-loop-r
-invariant-loop-r l = (m : List ℕ) → does (state_of l.text l.r m) (repeat named (association_in l.of))
+abbrev pub invariant-loop-of : goal.invariant-loop-of
+invariant-loop-of l = (m : List ℕ) → does (state_of l.text l.r m) (repeat named (association_in l.of))
     ≡ does (state_of l.text l.initial.r m) (repeat named (association_in l.of))
 
-abbrev pub decreases-loop-r : goal.decreases-loop-r
-decreases-loop-r l = size (lift l.text l.r.went)
+abbrev pub decreases-loop-of : goal.decreases-loop-of
+decreases-loop-of l = size (lift l.text l.r.went)

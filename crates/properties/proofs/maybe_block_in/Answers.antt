@@ -1,5 +1,7 @@
 -- `properties::maybe_block_in`.
-use Rattle.common.specs.Words.{rules, sym, ◌∙◌, arith}
+use Rattle.common.specs.Words.{refl}
+use Rattle.words.specs.Same.{told_ne}
+use Rattle.common.specs.Words.{rules, ◌∙◌}
 use Rattle.words.specs.Kinds.{OPEN_BRACE}
 use Rattle.steps.specs.Steps.{is}
 use Rattle.steps.specs.Laws.{is_on, is_off}
@@ -13,12 +15,12 @@ pub next_of-requires : goal.next_of-requires
 unfolding maybe_block_in
 next_of-requires c = search rules
 
-pub returns-then-next_of-ne-OPEN_BRACE : goal.returns-then-next_of-ne-OPEN_BRACE
+pub returns-then-ne : goal.returns-then-ne
 unfolding maybe_block_in
-returns-then-next_of-ne-OPEN_BRACE c =
+returns-then-ne c =
     let a = c.args in
     λ m. let s = state_of a.text.now a.reading m in optionally_off (is OPEN_BRACE) (block_in a.of) s
-    (is_off OPEN_BRACE s.went (λ e. c.if-next_of-ne-OPEN_BRACE.true (c.next_of.ensures ∙ e)))
+    (is_off OPEN_BRACE s.went (told_ne OPEN_BRACE c.next_of.ensures c.if-ne.ensures))
 
 pub symbol_on-requires : goal.symbol_on-requires
 unfolding maybe_block_in
@@ -39,4 +41,4 @@ returns c =
     λ m. let s = state_of a.text.now a.reading m in
     rw (c.symbol_on-2.ensures m, c.associations_in-inner.ensures m, c.symbol_on.ensures m)
     (block_does a.of s ∙ optionally_on (is OPEN_BRACE) (block_in a.of) s
-    (is_on OPEN_BRACE s.went (λ e. omega arith) (sym k.next_of.ensures ∙ k.if-next_of-ne-OPEN_BRACE.false)))
+    (is_on OPEN_BRACE s.went refl (told_ne OPEN_BRACE k.next_of.ensures k.if-ne.ensures)))

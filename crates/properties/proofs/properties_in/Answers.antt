@@ -1,5 +1,7 @@
 -- `properties::properties_in`.
-use Rattle.common.specs.Words.{rules, sym, ap, ◌∙◌}
+use Rattle.words.specs.Kinds.{NONE}
+use Rattle.words.specs.Same.{told_eq}
+use Rattle.common.specs.Words.{rules, ap, ◌∙◌}
 use Rattle.words.specs.Kinds.{PROPERTIES}
 use Rattle.steps.specs.Steps.{the}
 use Rattle.phrases.specs.Phrases.{nothing}
@@ -26,13 +28,13 @@ pub on-requires : goal.on-requires
 unfolding properties_in
 on-requires c = search rules
 
-pub returns-then-next_of-eq-NONE : goal.returns-then-next_of-eq-NONE
+pub returns-then-eq : goal.returns-then-eq
 unfolding properties_in
-returns-then-next_of-eq-NONE c =
+returns-then-eq c =
     let k = c in let j = k in let a = j.args in
     λ m. let s = state_of a.text.now a.reading m in let t = state_of a.text.now j.symbol_on-inner.result m in
     rw (c.on.ensures, c.nothing.ensures)
-    (does_quiet t nothing ∙ none_on (associations_in a.of) t (sym k.next_of.ensures ∙ k.if-next_of-eq-NONE.true)
+    (does_quiet t nothing ∙ none_on (associations_in a.of) t (told_eq NONE k.next_of.ensures k.if-eq.ensures)
     ∙ ap (λ (x : State). does x (none_or (associations_in a.of))) (j.symbol_on-inner.ensures m)
     ∙ does_then s (quiet (the PROPERTIES)) (none_or (associations_in a.of)))
 
@@ -45,6 +47,6 @@ unfolding properties_in
 returns c =
     let k = c in let j = k in let a = j.args in
     λ m. let s = state_of a.text.now a.reading m in let t = state_of a.text.now j.symbol_on-inner.result m in
-    c.associations_in.ensures m ∙ none_off (associations_in a.of) t (λ e. k.if-next_of-eq-NONE.false (k.next_of.ensures ∙ e))
+    c.associations_in.ensures m ∙ none_off (associations_in a.of) t (told_eq NONE k.next_of.ensures k.if-eq.ensures)
     ∙ ap (λ (x : State). does x (none_or (associations_in a.of))) (j.symbol_on-inner.ensures m)
     ∙ does_then s (quiet (the PROPERTIES)) (none_or (associations_in a.of))

@@ -1,21 +1,16 @@
 -- `properties::rightness`.
-use Rattle.common.specs.Words.{rules}
-use Rattle.common.specs.Tests.{tests}
-use Rattle.properties.specs.Properties.{right_by}
+use Rattle.common.specs.Words.{sym, ap, ◌∙◌}
+use Rattle.words.specs.Kinds.{PERIODIC, DELAYED}
+use Rattle.words.specs.Same.{kind_eq}
+use Rattle.properties.specs.Properties.{one_if}
+use Rattle.properties.specs.Laws.{right_protocol, right_timing}
 use Rattle.properties.proofs.rightness.Goals as goal
 
-pub one_if-requires : goal.one_if-requires
-unfolding right_by
-one_if-requires c = search rules
-
 pub returns-then-property-eq-PROTOCOL : goal.returns-then-property-eq-PROTOCOL
-unfolding right_by
-returns-then-property-eq-PROTOCOL c = search (tests, c.one_if.ensures)
-
-pub one_if-requires-2 : goal.one_if-requires-2
-unfolding right_by
-one_if-requires-2 c = search rules
+returns-then-property-eq-PROTOCOL c =
+    c.one_if.ensures ∙ ap one_if (sym (kind_eq c.args.kind PERIODIC c.eq.ensures)) ∙
+    right_protocol c.args.property c.args.kind c.if-property-eq-PROTOCOL.true
 
 pub returns : goal.returns
-unfolding right_by
-returns c = search (tests, c.one_if-2.ensures)
+returns c = c.one_if-2.ensures ∙ ap one_if (sym (kind_eq c.args.kind DELAYED c.eq-2.ensures)) ∙
+    right_timing c.args.property c.args.kind c.if-property-eq-PROTOCOL.false

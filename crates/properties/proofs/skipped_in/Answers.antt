@@ -1,13 +1,17 @@
 -- `properties::skipped_in`.
+use Rattle.common.specs.Words.{sym}
+use Rattle.properties.specs.contracts.Of.{the_type}
+use Rattle.properties.specs.Properties.{of_process}
+use denote.Enum.Bare.{differs_true, differs_false}
 use Rattle.rows.specs.States.{state_of}
 use Rattle.properties.specs.Laws.{skipped_plain, skipped_other, skipped_noted}
 use Rattle.properties.proofs.skipped_in.Goals as goal
 
-pub returns-then-of-ne-OF_PROCESS : goal.returns-then-of-ne-OF_PROCESS
-returns-then-of-ne-OF_PROCESS c =
+pub returns-then-ne : goal.returns-then-ne
+returns-then-ne c =
     let a = c.args in
     λ m. rw (c.on-skipped.ensures, c.association.ensures)
-    (skipped_plain a.of (state_of a.text.now a.reading m) c.if-of-ne-OF_PROCESS.true)
+    (skipped_plain a.of (state_of a.text.now a.reading m) (differs_true the_type _ of_process (sym c.if-ne.ensures)))
 
 pub returns-then-property-lt-TIMING : goal.returns-then-property-lt-TIMING
 returns-then-property-lt-TIMING c =
@@ -15,7 +19,7 @@ returns-then-property-lt-TIMING c =
     let k = b in
     let a = k.args in
     λ m. rw (c.noted.ensures, b.on-skipped.ensures, b.association.ensures, c.start_of.ensures)
-    (skipped_noted a.of (state_of a.text.now a.reading m) c.if-of-ne-OF_PROCESS.false
+    (skipped_noted a.of (state_of a.text.now a.reading m) (differs_false the_type tt _ of_process (sym c.if-ne.ensures))
     (rw (← k.requires) c.if-property-lt-TIMING.true))
 
 pub returns : goal.returns

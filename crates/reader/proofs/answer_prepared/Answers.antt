@@ -1,14 +1,13 @@
 -- `reader::answer_prepared`.
-use Rattle.common.specs.Words.{◌∙◌}
+use Rattle.common.specs.Words.{refl}
 use Rattle.reader.specs.Laws.{answer_refused, answer_sound}
 use Rattle.reader.proofs.answer_prepared.Goals as goal
 
-pub returns-then-least-ne0 : goal.returns-then-least-ne0
-returns-then-least-ne0 c =
-    let l = c in
-    c.refused.ensures ∙ answer_refused _ _ _ _ l.with_length-fault.ensures l.least_fault-least.ensures c.if-least-ne0.true
+pub returns-in-Some : goal.returns-in-Some
+returns-in-Some c =
+    rw c.no_table.ensures
+    (answer_refused _ _ _ _ c.with_length-noted.ensures (rw c.requires at c.in-Some.ensures) c.in-Some.fault refl)
 
-pub returns : goal.returns
-returns c =
-    let l = c in
-    answer_sound _ _ _ _ l.with_length-fault.ensures l.least_fault-least.ensures c.if-least-ne0.false c.make_table.ensures
+pub returns-in-None : goal.returns-in-None
+returns-in-None c =
+    answer_sound _ _ _ _ c.with_length-noted.ensures (rw c.requires at c.in-None.ensures) refl (rw c.requires at c.make_table.ensures)

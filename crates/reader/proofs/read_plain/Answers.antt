@@ -6,20 +6,15 @@ use Rattle.reader.proofs.read_plain.Goals as goal
 
 pub answer_read-requires : goal.answer_read-requires
 answer_read-requires c =
-    let d = c in
-    let s = d in
-    let a = s.args in
-    fitting_read a.text.now d.read-reading.result a.rows.now d.read-reading.new.rows
+    let a = c.args in
+    fitting_read a.text.now c.read-reading.result a.rows.now c.read-reading.new.rows
     a.declared.now a.connected.now a.queued.now a.types.now
-    d.read-reading.ensures s.requires.0 s.requires.1
+    c.read-reading.ensures c.requires.0 c.requires.1
 
 pub returns : goal.returns
 returns c =
-    let e = c in
-    let d = e in
-    let s = d in
-    let a = s.args in
+    let a = c.args in
     let room = (fitting_plain most_bytes (length a.rows.now) (length a.declared.now) (length a.connected.now)
-    (length a.queued.now) (length a.types.now) s.requires.1).1 in
-    e.answer_read.ensures
-    ∙ read_answer a.text.now d.read-reading.result a.rows.now d.read-reading.new.rows a.long d.read-reading.ensures s.requires.0 room
+    (length a.queued.now) (length a.types.now) c.requires.1).1 in
+    c.answer_read.ensures
+    ∙ read_answer a.text.now c.read-reading.result a.rows.now c.read-reading.new.rows a.long c.read-reading.ensures c.requires.0 room

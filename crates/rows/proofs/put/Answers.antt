@@ -11,4 +11,4 @@ returns c =
     let k = c in
     let j = k in
     let a = j.args in
-    λ p row e. put_goes p a.reading a.rows.now _ k.keep.result _ row j.in-To.is (rw e k.keep.ensures)
+    λ p row e. put_goes p a.reading a.rows.now _ k.keep.result _ row j.in-Ok.is (rw e k.keep.ensures)

@@ -1,11 +1,12 @@
 -- `rules::counts_good`: the definition's two tests.
-use Rattle.plan.specs.Rules.{counts_good}
+use Rattle.common.specs.Tests.{tests}
+use Rattle.plan.specs.Rules.{one_to, counts_good}
 use Rattle.rules.proofs.counts_good.Goals as goal
 
-pub returns-then-one_to : goal.returns-then-one_to
-unfolding counts_good
-returns-then-one_to c = rw (← c.one_to.ensures, c.if-one_to.true) c.one_to-then-one_to.ensures
+pub returns-then-contains : goal.returns-then-contains
+unfolding one_to counts_good
+returns-then-contains c = search tests
 
-pub returns-else-one_to : goal.returns-else-one_to
-unfolding counts_good
-returns-else-one_to c = rw (← c.one_to.ensures, c.if-one_to.false)
+pub returns-else-contains : goal.returns-else-contains
+unfolding one_to counts_good
+returns-else-contains c = search tests

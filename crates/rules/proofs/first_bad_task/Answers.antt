@@ -1,24 +1,15 @@
--- `rules::first_bad_task`: no row below the loop's counter is bad.
+-- `rules::first_bad_task`: what the search finds is the first bad row.
 use Rattle.std.specs.Prelude.{◌≡◌}
-use Rattle.common.specs.Words.{sym, rules}
-use Rattle.common.proofs.Rows.{first_bad_none, first_bad_more, first_bad_found}
+use Rattle.common.specs.Words.{ℕ, true, false, rules, get_or}
+use Rattle.common.specs.Tests.{tests}
+use Rattle.std.proofs.lemmas.Iterator.{first_from_Range}
+use Rattle.plan.specs.Rules.{task_good}
+use Rattle.rules.proofs.Found.{found}
 use Rattle.rules.proofs.first_bad_task.Goals as goal
-
-pub loop-i-init : goal.loop-i-init
-loop-i-init c = search (rules, first_bad_none)
-
-pub returns-then-not-task_good : goal.returns-then-not-task_good
-returns-then-not-task_good c =
-    let l = c.loop-i in
-    sym (first_bad_found _ l.i _ (search rules) l.invariant.1 (rw (← c.task_good.ensures) c.if-not-task_good.true))
-
-pub loop-i-preserved : goal.loop-i-preserved
-loop-i-preserved c =
-    let l = c.loop-i in
-    (search rules, first_bad_more _ l.i l.invariant.1 (rw (← c.task_good.ensures) c.if-not-task_good.false))
 
 pub returns : goal.returns
 returns c =
-    let l = c.loop-i in
-    let e : l.i ≡ c.args.tasks = search rules in
-    sym (rw e at l.invariant.1)
+    let good = λ (i : ℕ). task_good (get_or c.args.period.now i 0) (get_or c.args.deadline.now i 0) in
+    found good _ _
+    (first_from_Range _ _ _ _ (λ i. good i ≡ false) (λ i. good i ≡ true) c.find.ensures.ran (λ x q k. search (rules, tests))
+    (λ x q k. search (rules, tests)))

@@ -1,27 +1,23 @@
 -- `rules::queue_good`: the definition's three tests.
-use Rattle.common.specs.Words.{rules}
-use Rattle.common.specs.Tests.{tests}
-use Rattle.common.proofs.Rows.{some}
+use Rattle.common.specs.Tests.{tests, clash}
 use Rattle.plan.specs.Rules.{queue_good}
+use Rattle.rules.proofs.Found.{some_row}
 use Rattle.rules.proofs.queue_good.Goals as goal
-
-pub returns-then-tasks-receiver : goal.returns-then-tasks-receiver
-unfolding queue_good some
-returns-then-tasks-receiver c = search tests
-
-pub only_tasks_send-requires : goal.only_tasks_send-requires
-unfolding queue_good some
-only_tasks_send-requires c = search rules
-
-pub first_sender-requires : goal.first_sender-requires
-unfolding queue_good some
-first_sender-requires c = search rules
+use Rattle.rules.proofs.queue_good.Goals.{then-receiver-tasks, else-receiver-tasks}
 
 pub returns-then-only_tasks_send : goal.returns-then-only_tasks_send
-unfolding queue_good some
+unfolding queue_good
 returns-then-only_tasks_send c =
-    rw (← c.only_tasks_send.ensures, c.if-only_tasks_send.true, ← c.first_sender.ensures) (search tests)
+    let s = some_row c.args.row.now 16 c.told-row _ c.contains.ensures.cases in
+    elim c.if-receiver-tasks.branch [
+      | then-receiver-tasks w ↦ search (tests, w.value-is, w.only_tasks_send.ensures, w.if-receiver-tasks.true, c.if-only_tasks_send.true, s)
+      | else-receiver-tasks w ↦ absurd (clash c.if-only_tasks_send.true (search (tests, w.value-is, w.if-receiver-tasks.false)))
+    ]
 
 pub returns-else-only_tasks_send : goal.returns-else-only_tasks_send
-unfolding queue_good some
-returns-else-only_tasks_send c = rw (← c.only_tasks_send.ensures, c.if-only_tasks_send.false) (search tests)
+unfolding queue_good
+returns-else-only_tasks_send c =
+    elim c.if-receiver-tasks.branch [
+      | then-receiver-tasks w ↦ search (tests, w.value-is, w.only_tasks_send.ensures, w.if-receiver-tasks.true)
+      | else-receiver-tasks w ↦ search (tests, w.value-is, w.if-receiver-tasks.false)
+    ]

@@ -1,21 +1,11 @@
--- `clear`: the first i bytes are zero, and the rest is as it was.
+-- `clear`: the bytes that were filled, and the rest as it was.
 use Rattle.std.specs.Prelude.{◌≡◌, ◌*◌}
-use Rattle.common.specs.Words.{refl, arith, length-set, rules}
-use borrow.Author.Fill.{fill_none, fill_more}
+use Rattle.common.specs.Words.{rules, length, take, length-take-le}
 use Rattle.slots.specs.Slots.{cleared}
 use Rattle.slots.proofs.clear.Goals as goal
-
-pub loop-i-init : goal.loop-i-init
-loop-i-init c = (search rules, refl, fill_none _ 0)
-
-pub loop-i-preserved : goal.loop-i-preserved
-loop-i-preserved c =
-    let l = c.loop-i in
-    (search rules, simp length-set l.invariant.1, rw l.invariant.2 (fill_more l.i 0 _ (search rules)))
 
 pub returns : goal.returns
 unfolding cleared
 returns c =
-    let l = c.loop-i in
-    let e : l.i ≡ c.args.slots * 32 = omega arith in
-    rw e at l.invariant.2
+    let n : length (take (c.args.slots * 32) c.args.memory.now) ≡ c.args.slots * 32 = length-take-le _ c.args.memory.now (search rules) in
+    rw (c.fill.ensures.after (λ y h. search rules), n)

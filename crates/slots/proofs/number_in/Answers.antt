@@ -1,8 +1,9 @@
--- `number_in`: two halves of four bytes make the number.
+-- `number_in`: eight bytes make the number.
 use Rattle.slots.specs.Slots.{number_from}
-use Rattle.common.specs.Words.{rules}
+use Rattle.common.specs.Words.{◌∙◌, arith, ap}
+use Rattle.calendar.specs.Calendar.{message}
 use Rattle.slots.proofs.number_in.Goals as goal
 
 pub returns : goal.returns
 unfolding number_from
-returns c = search (rules, c.join-high.ensures.0, c.join-low.ensures.0)
+returns c = ap message (c.from_be_bytes.ensures ∙ omega arith)

@@ -17,8 +17,8 @@ unfolding places_good
 returns-then-not-place_good c =
     let a = c.args in
     let l = c.loop-q in
-    let f : every (place_good_at a.plan) a.plan.queues ≡ _ =
-    every_fails (place_good_at a.plan) l.q a.plan.queues (search rules)
+    let f : every (place_good_at a.plan.now) a.plan.now.queues ≡ _ =
+    every_fails (place_good_at a.plan.now) l.q a.plan.now.queues (search rules)
     (rw (← l.invariant.2, ← c.place_good.ensures) c.if-not-place_good.true) in
     rw f
 
@@ -28,13 +28,13 @@ overflow_add-total c =
     let l = c.loop-q in
     omega (
       arith,
-      ((place_iff (size_at a.plan l.q) (place_at a.plan l.q) l.total).0
+      ((place_iff (size_at a.plan.now l.q) (place_at a.plan.now l.q) l.total).0
           (rw (← c.place_good.ensures) c.if-not-place_good.false)).0.1,
     )
 
 pub loop-q-preserved : goal.loop-q-preserved
 loop-q-preserved c =
-    let p = c.args.plan in
+    let p = c.args.plan.now in
     let l = c.loop-q in
     let g : place_good (size_at p l.q) (place_at p l.q) l.total ≡ true =
     rw (← c.place_good.ensures) c.if-not-place_good.false in (
@@ -49,5 +49,5 @@ unfolding places_good
 returns c =
     let l = c.loop-q in
     let a = c.args in
-    let e : l.q ≡ a.plan.queues = search rules in
+    let e : l.q ≡ a.plan.now.queues = search rules in
     rw (rw e at l.invariant.3, ← rw e at l.invariant.2)

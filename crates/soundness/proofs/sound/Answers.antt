@@ -8,6 +8,7 @@ use Rattle.plan.specs.Square.{square_of}
 use Rattle.plan.specs.Rules.{counts_good, task_good_at, queue_good_at, bad_task, bad_queue, places_good, checked_plan, sound_plan}
 use Rattle.plan.specs.Facts.{counts_iff}
 use Rattle.plan.specs.Connections.{bad_queue_same, own_agrees}
+use Rattle.plan.proofs.Found.{is_found, not_found}
 use Rattle.plan.specs.declared.Plan.{Plan}
 use Rattle.soundness.proofs.sound.Goals as goal
 
@@ -48,33 +49,33 @@ returns-then-not-counts_good c =
 
 pub first_bad_task-requires : goal.first_bad_task-requires
 first_bad_task-requires c =
-    tasks_fit c.args.plan (as_tested c.counts_good.ensures c.if-not-counts_good.false)
+    tasks_fit c.args.plan.now (as_tested c.counts_good.ensures c.if-not-counts_good.false)
 
-pub returns-then-first_bad_task-plan : goal.returns-then-first_bad_task-plan
-returns-then-first_bad_task-plan c =
+pub returns-then-is_some : goal.returns-then-is_some
+returns-then-is_some c =
     sym
-    (bad_task_lem c.args.plan (as_tested c.counts_good.ensures c.if-not-counts_good.false)
-    (rw (← c.first_bad_task.ensures) c.if-first_bad_task-plan.true))
+    (bad_task_lem c.args.plan.now (as_tested c.counts_good.ensures c.if-not-counts_good.false)
+    (is_found _ _ (rw (c.is_some.ensures, c.first_bad_task.ensures) at c.if-is_some.true)))
 
 pub first_bad_queue-requires : goal.first_bad_queue-requires
 first_bad_queue-requires c =
-    queues_fit c.args.plan (as_tested c.counts_good.ensures c.if-not-counts_good.false)
+    queues_fit c.args.plan.now (as_tested c.counts_good.ensures c.if-not-counts_good.false)
 
-pub returns-then-first_bad_queue-plan : goal.returns-then-first_bad_queue-plan
-returns-then-first_bad_queue-plan c =
+pub returns-then-is_some-2 : goal.returns-then-is_some-2
+returns-then-is_some-2 c =
     sym
-    (bad_queue_lem c.args.plan (as_tested c.counts_good.ensures c.if-not-counts_good.false)
-    (rw (← c.first_bad_task.ensures) c.if-first_bad_task-plan.false)
-    (rw (← c.square_of.ensures, ← c.first_bad_queue.ensures) c.if-first_bad_queue-plan.true))
+    (bad_queue_lem c.args.plan.now (as_tested c.counts_good.ensures c.if-not-counts_good.false)
+    (not_found _ _ (rw (c.is_some.ensures, c.first_bad_task.ensures) at c.if-is_some.false))
+    (is_found _ _ (rw (c.is_some-2.ensures, c.first_bad_queue.ensures, c.square_of-square.ensures) at c.if-is_some-2.true)))
 
 pub places_good-requires : goal.places_good-requires
 places_good-requires c =
-    queues_fit c.args.plan (as_tested c.counts_good.ensures c.if-not-counts_good.false)
+    queues_fit c.args.plan.now (as_tested c.counts_good.ensures c.if-not-counts_good.false)
 
 pub returns : goal.returns
 returns c =
     c.places_good.ensures
     ∙ sym
-    (good_queues c.args.plan (as_tested c.counts_good.ensures c.if-not-counts_good.false)
-    (rw (← c.first_bad_task.ensures) c.if-first_bad_task-plan.false)
-    (rw (← c.square_of.ensures, ← c.first_bad_queue.ensures) c.if-first_bad_queue-plan.false))
+    (good_queues c.args.plan.now (as_tested c.counts_good.ensures c.if-not-counts_good.false)
+    (not_found _ _ (rw (c.is_some.ensures, c.first_bad_task.ensures) at c.if-is_some.false))
+    (not_found _ _ (rw (c.is_some-2.ensures, c.first_bad_queue.ensures, c.square_of-square.ensures) at c.if-is_some-2.false)))

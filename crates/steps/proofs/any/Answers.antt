@@ -1,15 +1,13 @@
 -- `steps::any`.
+use Rattle.words.specs.Kinds.{ENDED}
+use Rattle.words.specs.Same.{kind_eq, kind_is, kind_apart}
 use Rattle.steps.specs.Spotted.{any_end, any_on}
 use Rattle.steps.proofs.any.Goals as goal
 
-pub returns-then-spot-eq-ENDED : goal.returns-then-spot-eq-ENDED
-returns-then-spot-eq-ENDED c =
-    let k = c in
-    let p = k.args.text.now in
-    rw k.in-To.is (any_end p _ k.spot_at-spot.result k.spot_at-spot.ensures c.if-spot-eq-ENDED.true)
+pub returns-then-eq : goal.returns-then-eq
+returns-then-eq c =
+    rw c.in_ok-at.was (any_end _ _ c.spot_at-spot.result c.spot_at-spot.ensures (kind_is _ ENDED (kind_eq _ ENDED c.if-eq.ensures)))
 
 pub returns : goal.returns
 returns c =
-    let k = c in
-    let p = k.args.text.now in
-    rw k.in-To.is (any_on p _ k.spot_at-spot.result k.spot_at-spot.ensures c.if-spot-eq-ENDED.false)
+    rw c.in_ok-at.was (any_on _ _ c.spot_at-spot.result c.spot_at-spot.ensures (kind_apart _ ENDED (kind_eq _ ENDED c.if-eq.ensures)))

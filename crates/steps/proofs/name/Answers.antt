@@ -1,18 +1,17 @@
 -- `steps::name`.
-use Rattle.common.specs.Words.{rules, ◌∙◌, arith}
+use Rattle.common.specs.Words.{sym, ◌∙◌}
+use Rattle.words.specs.Same.{name_there}
 use Rattle.steps.specs.Spotted.{any_on, name_off, name_on}
 use Rattle.steps.proofs.name.Goals as goal
 
-pub returns-then-spot-lt-FIRST_NAME : goal.returns-then-spot-lt-FIRST_NAME
-returns-then-spot-lt-FIRST_NAME c =
-    let k = c in
-    let p = k.args.text.now in
-    rw (k.in-To.is, c.unfit.ensures) (name_off p _ k.spot_at-spot.result k.spot_at-spot.ensures (search rules))
+pub returns-then-not-is_name : goal.returns-then-not-is_name
+returns-then-not-is_name c =
+    rw (c.in_ok-at.was, c.unfit.ensures)
+    (name_off _ _ c.spot_at-spot.result c.spot_at-spot.ensures (sym c.is_name.ensures ∙ c.if-not-is_name.true))
 
 pub returns : goal.returns
 returns c =
-    let k = c in
-    let p = k.args.text.now in
-    rw k.in-To.is
-    (any_on p _ k.spot_at-spot.result k.spot_at-spot.ensures (λ e. omega arith)
-    ∙ name_on p _ k.spot_at-spot.result k.spot_at-spot.ensures (search rules))
+    let s = c.spot_at-spot in
+    let n = sym c.is_name.ensures ∙ c.if-not-is_name.false in
+    rw c.in_ok-at.was
+    (any_on _ _ s.result s.ensures (name_there s.result.kind n) ∙ name_on _ _ s.result s.ensures n)

@@ -1,22 +1,14 @@
 -- `steps::second`.
-use Rattle.common.specs.Words.{ne_eqb}
 use Rattle.words.specs.Kinds.{ENDED}
+use Rattle.words.specs.Same.{kind_eq}
 use Rattle.tokens.specs.Spots.{behind}
 use Rattle.steps.proofs.second.Goals as goal
 
-pub returns-then-first-eq-ENDED : goal.returns-then-first-eq-ENDED
+pub returns-then-eq : goal.returns-then-eq
 unfolding behind
-returns-then-first-eq-ENDED c =
-    let k = c in
-    rw (k.in-To.is, k.spot_at-first.ensures.tokens, c.if-first-eq-ENDED.true)
+returns-then-eq c = rw (c.in-Ok.is, c.spot_at-first.ensures.tokens, kind_eq c.spot_at-first.result.kind ENDED c.if-eq.ensures)
 
 pub returns : goal.returns
 unfolding behind
 returns c =
-    let k = c in
-    rw (
-      k.in-To.is,
-      k.spot_at-first.ensures.tokens,
-      ne_eqb k.spot_at-first.result.kind ENDED c.if-first-eq-ENDED.false,
-      c.spot_at.ensures.tokens,
-    )
+    rw (c.in-Ok.is, c.spot_at-first.ensures.tokens, kind_eq c.spot_at-first.result.kind ENDED c.if-eq.ensures, c.spot_at.ensures.tokens)

@@ -1,29 +1,28 @@
 -- `steps::symbol`.
+use Rattle.std.specs.Prelude.{◌≡◌}
 use Rattle.common.specs.Words.{sym, ◌∙◌}
+use Rattle.words.specs.Kinds.{ENDED}
+use Rattle.words.specs.Same.{kind_eq, kind_ne, kind_is, kind_apart}
 use Rattle.steps.specs.Spotted.{any_end, any_on, the_off, the_on}
 use Rattle.steps.proofs.symbol.Goals as goal
 
-pub returns-then-spot-kind : goal.returns-then-spot-kind
-returns-then-spot-kind c =
-    let k = c in
-    let a = k.args in
-    rw (k.in-To.is, c.unfit.ensures) (the_off a.text.now _
-    k.spot_at-spot.result k.spot_at-spot.ensures a.kind c.if-spot-kind.true)
+pub returns-then-ne : goal.returns-then-ne
+returns-then-ne c =
+    let s = c.spot_at-spot in
+    rw (c.in_ok-at.was, c.unfit.ensures)
+    (the_off _ _ s.result s.ensures c.args.kind (kind_apart _ c.args.kind (kind_ne _ c.args.kind c.if-ne.ensures)))
 
-pub returns-then-kind-eq-ENDED : goal.returns-then-kind-eq-ENDED
-returns-then-kind-eq-ENDED c =
-    let k = c in
-    let a = k.args in
-    let p = a.text.now in
-    rw k.in-To.is
-    (any_end p _ k.spot_at-spot.result k.spot_at-spot.ensures (c.if-spot-kind.false ∙ c.if-kind-eq-ENDED.true)
-    ∙ the_on p _ k.spot_at-spot.result k.spot_at-spot.ensures a.kind c.if-spot-kind.false)
+pub returns-then-eq : goal.returns-then-eq
+returns-then-eq c =
+    let s = c.spot_at-spot in
+    let k : s.result.kind ≡ c.args.kind = kind_is _ c.args.kind (kind_ne _ c.args.kind c.if-ne.ensures) in
+    rw c.in_ok-at.was
+    (any_end _ _ s.result s.ensures (k ∙ kind_is _ ENDED (kind_eq _ ENDED c.if-eq.ensures)) ∙ the_on _ _ s.result s.ensures c.args.kind k)
 
 pub returns : goal.returns
 returns c =
-    let k = c in
-    let a = k.args in
-    let p = a.text.now in
-    rw k.in-To.is
-    (any_on p _ k.spot_at-spot.result k.spot_at-spot.ensures (λ e. c.if-kind-eq-ENDED.false (sym c.if-spot-kind.false ∙ e))
-    ∙ the_on p _ k.spot_at-spot.result k.spot_at-spot.ensures a.kind c.if-spot-kind.false)
+    let s = c.spot_at-spot in
+    let k : s.result.kind ≡ c.args.kind = kind_is _ c.args.kind (kind_ne _ c.args.kind c.if-ne.ensures) in
+    rw c.in_ok-at.was
+    (any_on _ _ s.result s.ensures (λ e. kind_apart c.args.kind ENDED (kind_eq _ ENDED c.if-eq.ensures) (sym k ∙ e))
+    ∙ the_on _ _ s.result s.ensures c.args.kind k)

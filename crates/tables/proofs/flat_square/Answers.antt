@@ -1,19 +1,9 @@
--- `tables::flat_square` fills its array from the front.
-use Rattle.std.specs.Prelude.{◌≡◌}
-use Rattle.common.specs.Words.{rules}
-use Rattle.common.specs.Table.{table_none, table_more, table_all}
+-- `tables::flat_square`: the array is made cell by cell.
+use Rattle.common.specs.Words.{false, arith}
+use Rattle.common.specs.Tests.{tests}
+use Rattle.plan.proofs.Made.{made}
+use Rattle.tables.specs.Table.{flat_entry}
 use Rattle.tables.proofs.flat_square.Goals as goal
 
-pub loop-c-init : goal.loop-c-init
-loop-c-init c = search (rules, table_none)
-
-pub loop-c-preserved : goal.loop-c-preserved
-loop-c-preserved c =
-    let l = c.loop-c in
-    (search rules, search rules, rw c.both.ensures (table_more _ l.out l.c (search rules) l.invariant.2))
-
 pub returns : goal.returns
-returns c =
-    let l = c.loop-c in
-    let e : l.c ≡ 128 = search rules in
-    table_all _ l.out 128 l.invariant.1 (rw e at l.invariant.2)
+returns c = made _ _ (flat_entry c.args.queues c.args.square.now) false 128 c.from_fn.ensures.items (λ i y q l k. grind (arith, tests))

@@ -7,8 +7,8 @@ unfolding tabled
 returns c =
     rw (
       c.flat_square.ensures,
-      c.queue_column.ensures,
-      c.byte_column.ensures,
-      c.task_column-2.ensures,
-      c.task_column.ensures,
+      c.column-4.ensures,
+      c.column-3.ensures,
+      c.column-2.ensures,
+      c.column.ensures,
     )

@@ -1,24 +1,26 @@
 -- `texts::clause`.
-use Rattle.common.specs.Words.{sym, ◌∙◌}
+use Rattle.words.specs.Kinds.{PROPERTIES, WITH}
+use Rattle.words.specs.Same.{told_eq}
+use Rattle.common.specs.Words.{◌∙◌}
 use Rattle.steps.specs.Lifted.{lift}
 use Rattle.texts.specs.Laws.{clause_with, clause_properties, clause_word}
 use Rattle.texts.proofs.clause.Goals as goal
 
-pub returns-then-kind-eq-WITH : goal.returns-then-kind-eq-WITH
-returns-then-kind-eq-WITH c =
+pub returns-then-eq : goal.returns-then-eq
+returns-then-eq c =
     let i = c in let k = i in let a = k.args in
-    rw (c.paths.ensures, c.symbol.ensures) (clause_with (lift a.text.now a.went) (sym k.next-kind.ensures ∙ i.if-kind-eq-WITH.true))
+    rw (c.paths.ensures, c.symbol.ensures) (clause_with (lift a.text.now a.went) (told_eq WITH k.next-kind.ensures i.if-eq.ensures))
 
-pub returns-then-kind-eq-PROPERTIES : goal.returns-then-kind-eq-PROPERTIES
-returns-then-kind-eq-PROPERTIES c =
+pub returns-then-eq-2 : goal.returns-then-eq-2
+returns-then-eq-2 c =
     let j = c in let i = j in let k = i in let a = k.args in
-    rw (c.none_or_some.ensures, c.symbol-then-kind-eq-PROPERTIES.ensures)
-    (clause_properties (lift a.text.now a.went) (λ e. i.if-kind-eq-WITH.false (k.next-kind.ensures ∙ e))
-    (sym k.next-kind.ensures ∙ j.if-kind-eq-PROPERTIES.true))
+    rw (c.none_or_some.ensures, c.symbol-then-eq-2.ensures)
+    (clause_properties (lift a.text.now a.went) (told_eq WITH k.next-kind.ensures i.if-eq.ensures)
+    (told_eq PROPERTIES k.next-kind.ensures j.if-eq-2.ensures))
 
 pub returns : goal.returns
 returns c =
     let i = c in let k = i in let a = k.args in
     c.any.ensures
-    ∙ clause_word (lift a.text.now a.went) (λ e. i.if-kind-eq-WITH.false
-    (k.next-kind.ensures ∙ e)) (λ e. c.if-kind-eq-PROPERTIES.false (k.next-kind.ensures ∙ e))
+    ∙ clause_word (lift a.text.now a.went) (told_eq WITH k.next-kind.ensures i.if-eq.ensures)
+    (told_eq PROPERTIES k.next-kind.ensures c.if-eq-2.ensures)

@@ -10,19 +10,18 @@ use Rattle.threads.proofs.subcomponent_of.Goals as goal
 
 pub returns-then-is_other_component : goal.returns-then-is_other_component
 returns-then-is_other_component c =
-    let k = c in let a = k.args in
+    let a = c.args in
     let o = a.process in let n = a.named in let s = state_of a.text.now a.reading a.rows.now in
     rw (c.on.ensures, c.word_and_rest.ensures)
-    (does_quiet s word_and_rest ∙ other_does o n s (rw (← k.next.ensures, ← k.is_other_component.ensures)
+    (does_quiet s word_and_rest ∙ other_does o n s (rw (← c.next.ensures, ← c.is_other_component.ensures)
     c.if-is_other_component.true))
 
 pub returns : goal.returns
 returns c =
-    let u = c in let v = u in let k = v in
-    let a = k.args in
+    let a = c.args in
     let o = a.process in let n = a.named in let s = state_of a.text.now a.reading a.rows.now in
-    let e : state_of a.text.now v.with_props-fresh.result a.rows.now ≡ fresh s = rw v.with_props-fresh.ensures in
+    let e : state_of a.text.now c.with_props-fresh.result a.rows.now ≡ fresh s = rw c.with_props-fresh.ensures in
     rw c.with_props.ensures
-    (ap (with_props s.props) (u.thread.ensures ∙ ap (λ (t : State). does t (thread o n)) e)
-    ∙ does_apart s (thread o n) ∙ threaded_does o n s (rw (← k.next.ensures, ← k.is_other_component.ensures)
-    v.if-is_other_component.false))
+    (ap (with_props s.props) (c.thread.ensures ∙ ap (λ (t : State). does t (thread o n)) e)
+    ∙ does_apart s (thread o n) ∙ threaded_does o n s (rw (← c.next.ensures, ← c.is_other_component.ensures)
+    c.if-is_other_component.false))

@@ -13,36 +13,24 @@ pub loop-rows-init : goal.loop-rows-init
 unfolding subcomponents
 loop-rows-init c = (refl, refl)
 
-pub next_of-requires : goal.next_of-requires
-unfolding subcomponents
-next_of-requires c = search rules
-
-pub is_name-requires : goal.is_name-requires
-unfolding subcomponents
-is_name-requires c = search rules
-
-pub subcomponent-r-requires : goal.subcomponent-r-requires
-unfolding subcomponents
-subcomponent-r-requires c = search rules
-
 pub loop-rows-smaller : goal.loop-rows-smaller
 unfolding subcomponents
 loop-rows-smaller c =
-    let f = c in let k = f in let l = k in let a = l.args in
-    let o = a.process in let s = state_of a.text.now l.loop-rows.r l.loop-rows.rows in
-    rw (ap (λ (x : State). x.went) f.subcomponent-r.ensures)
+    let a = c.args in
+    let o = a.process in let s = state_of a.text.now c.loop-rows.r c.loop-rows.rows in
+    rw (ap (λ (x : State). x.went) c.subcomponent-r.ensures)
     (repeat_less named (subcomponent o) (advances_on named (subcomponent o) (subcomponent_moves o)) s
-    (kind_on is_name s.went refl (rw (← k.next_of.ensures, ← k.is_name.ensures) f.loop-rows-test.true)))
+    (kind_on is_name s.went refl (rw (← c.next_of.ensures, ← c.is_name.ensures) c.loop-rows-test.true)))
 
 pub loop-rows-preserved : goal.loop-rows-preserved
 unfolding subcomponents
 loop-rows-preserved c =
-    let f = c in let k = f in let l = k in let a = l.args in
-    let o = a.process in let s = state_of a.text.now l.loop-rows.r l.loop-rows.rows in (
-      rw f.subcomponent-r.ensures
+    let a = c.args in
+    let o = a.process in let s = state_of a.text.now c.loop-rows.r c.loop-rows.rows in (
+      rw c.subcomponent-r.ensures
           (repeat_on named (subcomponent o) (advances_on named (subcomponent o) (subcomponent_moves o)) s
-          (kind_on is_name s.went refl (rw (← k.next_of.ensures, ← k.is_name.ensures) f.loop-rows-test.true))
-          ∙ l.loop-rows.invariant.0),
+          (kind_on is_name s.went refl (rw (← c.next_of.ensures, ← c.is_name.ensures) c.loop-rows-test.true))
+          ∙ c.loop-rows.invariant.0),
       search rules,
     )
 
@@ -53,8 +41,8 @@ shape_of-rows c = c.loop-rows.invariant.1
 pub returns : goal.returns
 unfolding subcomponents
 returns c =
-    let k = c in let l = k in let a = l.args in
-    let o = a.process in let s = state_of a.text.now l.loop-rows.r l.loop-rows.rows in
+    let a = c.args in
+    let o = a.process in let s = state_of a.text.now c.loop-rows.r c.loop-rows.rows in
     repeat_off named (subcomponent o) (advances_on named (subcomponent o) (subcomponent_moves o)) s
-    (kind_off is_name s.went (rw (← k.next_of.ensures, ← k.is_name.ensures) c.loop-rows-test.false))
-    ∙ l.loop-rows.invariant.0
+    (kind_off is_name s.went (rw (← c.next_of.ensures, ← c.is_name.ensures) c.loop-rows-test.false))
+    ∙ c.loop-rows.invariant.0

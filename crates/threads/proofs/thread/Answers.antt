@@ -7,6 +7,6 @@ use Rattle.threads.proofs.thread.Goals as goal
 
 pub returns : goal.returns
 returns c =
-    let u = c in let a = u.args in
-    u.thread_of.ensures ∙ ap (λ (t : State). does t (thread_of a.process a.named)) (u.symbol_on.ensures a.rows.now)
+    let a = c.args in
+    c.thread_of.ensures ∙ ap (λ (t : State). does t (thread_of a.process a.named)) (c.symbol_on.ensures a.rows.now)
     ∙ thread_does a.process a.named (state_of a.text.now a.reading a.rows.now)

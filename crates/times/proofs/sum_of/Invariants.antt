@@ -1,14 +1,9 @@
 -- `times::sum_of`: the sum of what is left, from the sum so far, is the whole.
-use Rattle.std.specs.Prelude.{◌≡◌, ◌-◌, ◌≤◌}
-use Rattle.common.specs.Stores.{part}
+use Rattle.std.specs.Prelude.{◌≡◌, ◌≤◌}
+use Rattle.common.specs.Words.{drop}
 use Rattle.times.specs.Times.{with_bytes, most}
 use Rattle.times.specs.Sums.{grown, counted}
 use Rattle.times.proofs.sum_of.Given as goal
 
-abbrev pub invariant-loop-i : goal.invariant-loop-i
-invariant-loop-i l =
-    (with_bytes grown l.s (part l.text l.i (l.end - l.i)) ≡ counted (part l.text l.start (l.end - l.start)) l.places)
-    × (l.start ≤ l.i) × (l.i ≤ l.end) × (l.s.ticks ≤ most)
-
-abbrev pub decreases-loop-i : goal.decreases-loop-i
-decreases-loop-i l = l.end - l.i
+abbrev pub invariant-loop-byte : goal.invariant-loop-byte
+invariant-loop-byte l = (with_bytes grown l.s (drop l.byte-index l.number) ≡ counted l.number l.places) × (l.s.ticks ≤ most)

@@ -1,4 +1,10 @@
 -- `tokens::number_end`: the digits, and those behind a point.
+use Rattle.common.specs.Words.{sym, ap, refl}
+use Rattle.tokens.specs.declared.Sort.{Sort}
+use Rattle.tokens.specs.contracts.Sort.{the_type}
+use Rattle.tokens.specs.Tokens.{rank}
+use Rattle.tokens.specs.Sorts.{sort_is}
+use denote.Enum.Bare.{differs_true, differs_false}
 use Rattle.common.specs.Words.{rules, ◌∙◌, arith}
 use Rattle.tokens.specs.Tokens.{number_width}
 use Rattle.tokens.specs.Laws.{past_le, number_plain, number_ends, number_goes}
@@ -33,13 +39,14 @@ pub sort_of-requires : goal.sort_of-requires
 unfolding number_width
 sort_of-requires c = search rules
 
-pub returns-then-sort_of-ne-DIGIT : goal.returns-then-sort_of-ne-DIGIT
+pub returns-then-ne : goal.returns-then-ne
 unfolding number_width
-returns-then-sort_of-ne-DIGIT c =
+returns-then-ne c =
     let k = c in
     let a = k.args in
     number_ends a.text.now a.at k.past-end.result k.past-end.ensures
-    (rw (← c.byte_at-2.ensures, ← c.sort_of.ensures) c.if-sort_of-ne-DIGIT.true)
+    (λ e. differs_true the_type c.sort_of.result Sort.Digit (sym c.if-ne.ensures)
+    (sort_is c.sort_of.result Sort.Digit (c.sort_of.ensures ∙ rw c.byte_at-2.ensures e)))
 
 pub overflow_add-end-2 : goal.overflow_add-end-2
 unfolding number_width
@@ -59,4 +66,5 @@ returns c =
     let b = c in
     c.past.ensures ∙ number_goes a.text.now a.at k.past-end.result k.past-end.ensures
     (rw (← b.byte_at.ensures) b.if-byte_at-ne46.false)
-    (rw (← b.byte_at-2.ensures, ← c.sort_of.ensures) c.if-sort_of-ne-DIGIT.false)
+    (sym (c.sort_of.ensures ∙ rw c.byte_at-2.ensures refl) ∙
+    ap rank (differs_false the_type tt c.sort_of.result Sort.Digit (sym c.if-ne.ensures)))

@@ -1,9 +1,6 @@
--- `trial::play`: the line lies inside the text.
-use Rattle.std.proofs.Common.{length, ◌-◌, ◌≤◌}
+-- `trial::play`: what is lent lies inside the buffer.
+use Rattle.std.proofs.Common.{length, ◌≤◌}
 use Rattle.trial.proofs.play.Given as goal
 
-abbrev pub invariant-loop-end : goal.invariant-loop-end
-invariant-loop-end l = (l.at ≤ l.end) × (l.end ≤ length l.text)
-
-abbrev pub decreases-loop-end : goal.decreases-loop-end
-decreases-loop-end l = length l.text - l.end
+abbrev pub invariant-loop-piece : goal.invariant-loop-piece
+invariant-loop-piece l = l.lent ≤ length l.buffer

@@ -1,4 +1,7 @@
 -- The cycle of `values::skip_value`: a value calls its parts, a part that is a list or a record calls back with one bracket less to open.
+use Rattle.words.specs.Kinds.{CLOSE_PAREN, OPEN_BRACKET, OPEN_PAREN}
+use Rattle.words.specs.Same.{told_eq}
+use Rattle.words.specs.Same.{kind_eq}
 use Rattle.common.specs.Words.{rules, refl, sym, ◌∙◌, arith, inl, inr}
 use Rattle.words.specs.Words.{is_name}
 use Rattle.words.specs.Kinds.{COMMA}
@@ -10,54 +13,54 @@ use Rattle.values.specs.Laws.{part_moves, value_of_moves, comma_moves, field_mov
 use Rattle.values.specs.Laws.{list_goes, part_too_deep, part_opens, part_holds, part_atom, part_unfit}
 use Rattle.values.proofs.+skip_list_skip_part_skip_record_skip_value_skip_values.Goals as goal
 
-pub skip_list-returns-then-next-eq-CLOSE_PAREN : goal.skip_list-returns-then-next-eq-CLOSE_PAREN
+pub skip_list-returns-then-eq : goal.skip_list-returns-then-eq
 unfolding part_kind
-skip_list-returns-then-next-eq-CLOSE_PAREN t c =
+skip_list-returns-then-eq t c =
     let a = c.args in
-    rw c.symbol.ensures (list_ends (value_of a.depth) (lift a.text.now a.went) (sym c.next.ensures ∙ c.if-next-eq-CLOSE_PAREN.true))
+    rw c.symbol.ensures (list_ends (value_of a.depth) (lift a.text.now a.went) (told_eq CLOSE_PAREN c.next.ensures c.if-eq.ensures))
 
 pub skip_list-returns : goal.skip_list-returns
 unfolding part_kind
 skip_list-returns t c =
     let a = c.args in
     rw (c.symbol-2.ensures, c.skip_values.ensures)
-    (list_goes (value_of a.depth) (lift a.text.now a.went) (λ e. c.if-next-eq-CLOSE_PAREN.false (c.next.ensures ∙ e)))
+    (list_goes (value_of a.depth) (lift a.text.now a.went) (told_eq CLOSE_PAREN c.next.ensures c.if-eq.ensures))
 
 pub skip_part-returns-then-depth-eq0 : goal.skip_part-returns-then-depth-eq0
 unfolding part_kind
 skip_part-returns-then-depth-eq0 t c =
     let a = c.args in
     rw c.stop.ensures (part_too_deep a.depth (lift a.text.now a.went) c.if-depth-eq0.true
-    (inl (sym c.next-kind.ensures ∙ c.if-kind-eq-OPEN_PAREN.true)))
+    (inl (told_eq OPEN_PAREN c.next-kind.ensures c.if-eq.ensures)))
 
-pub skip_part-returns-then-kind-eq-OPEN_PAREN : goal.skip_part-returns-then-kind-eq-OPEN_PAREN
+pub skip_part-returns-then-eq : goal.skip_part-returns-then-eq
 unfolding part_kind
-skip_part-returns-then-kind-eq-OPEN_PAREN t c =
+skip_part-returns-then-eq t c =
     let a = c.args in
     rw (c.skip_list.ensures, c.symbol.ensures)
-    (part_opens a.depth (lift a.text.now a.went) (search rules) (sym c.next-kind.ensures ∙ c.if-kind-eq-OPEN_PAREN.true))
+    (part_opens a.depth (lift a.text.now a.went) (search rules) (told_eq OPEN_PAREN c.next-kind.ensures c.if-eq.ensures))
 
 pub skip_part-returns-then-depth-eq0-2 : goal.skip_part-returns-then-depth-eq0-2
 unfolding part_kind
 skip_part-returns-then-depth-eq0-2 t c =
     let a = c.args in
     rw c.stop-then-depth-eq0-2.ensures (part_too_deep a.depth (lift a.text.now a.went) c.if-depth-eq0-2.true
-    (inr (sym c.next-kind.ensures ∙ c.if-kind-eq-OPEN_BRACKET.true)))
+    (inr (told_eq OPEN_BRACKET c.next-kind.ensures c.if-eq-2.ensures)))
 
-pub skip_part-returns-then-kind-eq-OPEN_BRACKET : goal.skip_part-returns-then-kind-eq-OPEN_BRACKET
+pub skip_part-returns-then-eq-2 : goal.skip_part-returns-then-eq-2
 unfolding part_kind
-skip_part-returns-then-kind-eq-OPEN_BRACKET t c =
+skip_part-returns-then-eq-2 t c =
     let a = c.args in
-    rw (c.skip_record.ensures, c.symbol-then-kind-eq-OPEN_BRACKET.ensures)
-    (part_holds a.depth (lift a.text.now a.went) (search rules) (sym c.next-kind.ensures ∙ c.if-kind-eq-OPEN_BRACKET.true))
+    rw (c.skip_record.ensures, c.symbol-then-eq-2.ensures)
+    (part_holds a.depth (lift a.text.now a.went) (search rules) (told_eq OPEN_BRACKET c.next-kind.ensures c.if-eq-2.ensures))
 
 pub skip_part-returns-then-begins_part : goal.skip_part-returns-then-begins_part
 unfolding part_kind
 skip_part-returns-then-begins_part t c =
     let a = c.args in
     rw c.any.ensures
-    (part_atom a.depth (lift a.text.now a.went) (λ e. c.if-kind-eq-OPEN_PAREN.false (c.next-kind.ensures ∙ e))
-    (λ e. c.if-kind-eq-OPEN_BRACKET.false (c.next-kind.ensures ∙ e))
+    (part_atom a.depth (lift a.text.now a.went) (told_eq OPEN_PAREN c.next-kind.ensures c.if-eq.ensures)
+    (told_eq OPEN_BRACKET c.next-kind.ensures c.if-eq-2.ensures)
     (rw (← c.next-kind.ensures, ← c.begins_part.ensures) c.if-begins_part.true))
 
 pub skip_part-returns : goal.skip_part-returns
@@ -65,8 +68,8 @@ unfolding part_kind
 skip_part-returns t c =
     let a = c.args in
     rw c.stop-2.ensures
-    (part_unfit a.depth (lift a.text.now a.went) (λ e. c.if-kind-eq-OPEN_PAREN.false (c.next-kind.ensures ∙ e))
-    (λ e. c.if-kind-eq-OPEN_BRACKET.false (c.next-kind.ensures ∙ e))
+    (part_unfit a.depth (lift a.text.now a.went) (told_eq OPEN_PAREN c.next-kind.ensures c.if-eq.ensures)
+    (told_eq OPEN_BRACKET c.next-kind.ensures c.if-eq-2.ensures)
     (rw (← c.next-kind.ensures, ← c.begins_part.ensures) c.if-begins_part.false))
 
 pub skip_record-loop-w-smaller : goal.skip_record-loop-w-smaller
@@ -134,7 +137,7 @@ skip_values-loop-w-smaller t c =
     let s = lift a.text.now c.loop-w.w in
     rw (c.skip_value-w-in-loop-w.ensures, c.symbol.ensures, then_then s (the COMMA) (value_of a.depth))
     (many_less (is_kind COMMA) (comma_by (value_of a.depth)) (advances (is_kind COMMA) (comma_moves (value_of a.depth) (value_of_moves a.depth)))
-    s (is_on COMMA s (λ e. omega arith) (sym c.next.ensures ∙ c.loop-w-test.true)))
+    s (is_on COMMA s refl (told_eq COMMA c.next.ensures c.loop-w-test.ensures)))
 
 pub skip_values-loop-w-preserved : goal.skip_values-loop-w-preserved
 unfolding part_kind
@@ -143,7 +146,7 @@ skip_values-loop-w-preserved t c =
     let s = lift a.text.now c.loop-w.w in
     rw (c.skip_value-w-in-loop-w.ensures, c.symbol.ensures, then_then s (the COMMA) (value_of a.depth))
     (many_on (is_kind COMMA) (comma_by (value_of a.depth)) (advances (is_kind COMMA) (comma_moves (value_of a.depth) (value_of_moves a.depth)))
-    s (is_on COMMA s (λ e. omega arith) (sym c.next.ensures ∙ c.loop-w-test.true)) ∙ c.loop-w.invariant)
+    s (is_on COMMA s refl (told_eq COMMA c.next.ensures c.loop-w-test.ensures)) ∙ c.loop-w.invariant)
 
 pub skip_values-returns : goal.skip_values-returns
 unfolding part_kind
@@ -151,5 +154,5 @@ skip_values-returns t c =
     let a = c.args in
     let s = lift a.text.now c.loop-w.w in
     many_off (is_kind COMMA) (comma_by (value_of a.depth)) (advances (is_kind COMMA) (comma_moves (value_of a.depth) (value_of_moves a.depth))) s
-    (is_off COMMA s (λ e. c.loop-w-test.false (c.next.ensures ∙ e)))
+    (is_off COMMA s (told_eq COMMA c.next.ensures c.loop-w-test.ensures))
     ∙ c.loop-w.invariant ∙ rw c.skip_value-w.ensures (values_then (value_of a.depth) (lift a.text.now a.went))

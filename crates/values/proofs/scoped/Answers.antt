@@ -1,5 +1,6 @@
 -- `values::scoped`: what is left to pass ends where the whole does.
-use Rattle.common.specs.Words.{refl, sym, ◌∙◌, arith}
+use Rattle.words.specs.Same.{told_eq}
+use Rattle.common.specs.Words.{refl, ◌∙◌}
 use Rattle.words.specs.Kinds.{SCOPE}
 use Rattle.steps.specs.Steps.{is, the, name}
 use Rattle.steps.specs.Lifted.{lift}
@@ -16,17 +17,17 @@ loop-w-smaller c =
     let k = c in let s = lift k.args.text.now k.loop-w.w in
     rw (c.name-w-in-loop-w.ensures, c.symbol.ensures, then_then s (the SCOPE) name)
     (many_less (is SCOPE) inner (advances (is SCOPE) inner_moves) s
-    (is_on SCOPE s (λ e. omega arith) (sym k.next.ensures ∙ k.loop-w-test.true)))
+    (is_on SCOPE s refl (told_eq SCOPE k.next.ensures k.loop-w-test.ensures)))
 
 pub loop-w-preserved : goal.loop-w-preserved
 loop-w-preserved c =
     let k = c in let s = lift k.args.text.now k.loop-w.w in
     rw (c.name-w-in-loop-w.ensures, c.symbol.ensures, then_then s (the SCOPE) name)
     (many_on (is SCOPE) inner (advances (is SCOPE) inner_moves) s
-    (is_on SCOPE s (λ e. omega arith) (sym k.next.ensures ∙ k.loop-w-test.true)) ∙ k.loop-w.invariant)
+    (is_on SCOPE s refl (told_eq SCOPE k.next.ensures k.loop-w-test.ensures)) ∙ k.loop-w.invariant)
 
 pub returns : goal.returns
 returns c =
     let l = c in let a = l.args in let s = lift a.text.now l.loop-w.w in
-    many_off (is SCOPE) inner (advances (is SCOPE) inner_moves) s (is_off SCOPE s (λ e. c.loop-w-test.false (c.next.ensures ∙ e)))
+    many_off (is SCOPE) inner (advances (is SCOPE) inner_moves) s (is_off SCOPE s (told_eq SCOPE c.next.ensures c.loop-w-test.ensures))
     ∙ l.loop-w.invariant ∙ rw l.name-w.ensures (scoped_then (lift a.text.now a.went))

@@ -1,14 +1,11 @@
 -- `ways::set_types`: the entries so far are the types above.
-use Rattle.std.specs.Prelude.{◌-◌, ◌<◌, ◌≤◌, ◌≡◌}
+use Rattle.std.specs.Prelude.{◌<◌, ◌≡◌}
 use Rattle.common.specs.Words.{ℕ, length, get_or}
-use Rattle.index.specs.Index.{rows_in}
+use Rattle.index.specs.Held.{rows_of}
 use Rattle.ways.specs.Ways.{above}
 use Rattle.ways.proofs.set_types.Given as goal
 
 abbrev pub invariant-loop-k : goal.invariant-loop-k
 invariant-loop-k l =
-    ((j : ℕ) → j < l.k → get_or l.types j 0 ≡ above l.text (rows_in l.count l.rows) j) × (length l.types ≡ length l.initial.types)
-    × (l.k ≤ l.count)
-
-abbrev pub decreases-loop-k : goal.decreases-loop-k
-decreases-loop-k l = l.count - l.k
+    ((j : ℕ) → j < l.k → get_or l.types j 0 ≡ above l.declared.text.now (rows_of l.declared.rows) j)
+    × (length l.types ≡ length l.initial.types)

@@ -9,4 +9,4 @@ returns-then-name-eq0 c = search tests
 
 pub returns : goal.returns
 unfolding type_named
-returns c = search (tests, c.find.ensures)
+returns c = rw c.find.ensures.is (search tests)

@@ -17,9 +17,7 @@ returns-then-length_of-end c =
 pub returns-then-is_word : goal.returns-then-is_word
 returns-then-is_word c =
     let k = c.number_with-k in
-    let a = c.args in
-    let w = part a.text.now a.start (a.end - a.start) in
-    sym (kind_found w k.result k.ensures.1 (sym c.is_word.ensures ∙ c.if-is_word.true))
+    c.kind_at.ensures ∙ sym (kind_found _ k.result k.ensures.1 (sym c.is_word.ensures ∙ c.if-is_word.true))
 
 pub returns : goal.returns
 returns c =

@@ -15,25 +15,21 @@ later period deadline low high next pos h e =
 
 pub overflow_add-result : goal.overflow_add-result
 overflow_add-result c =
-    let a = c.args in
     let p = c.passed_at-passed in
-    let e = rw p.ensures.0 at p.ensures.1 in
     omega (
       arith,
-      later a.period a.deadline a.low.0 a.high.0 p.result.next c.requires.0 c.requires.2 e,
-      count_le a.period a.deadline c.requires.0 c.requires.1 a.high.0,
+      later c.args.period c.args.deadline c.args.low.0 c.args.high.0 p.result.next c.requires.0 c.requires.2 (rw p.ensures.0 at p.ensures.1),
+      count_le c.args.period c.args.deadline c.requires.0 c.requires.1 c.args.high.0,
     )
 
 pub returns : goal.returns
 returns c =
-    let a = c.args in
-    let p = c.passed_at-passed in
-    let e = rw p.ensures.0 at p.ensures.1 in (
+    let p = c.passed_at-passed in (
       p.ensures.0,
       omega (
         arith,
         p.ensures.0,
         c.deadlines_in-more.ensures,
-        later a.period a.deadline a.low.0 a.high.0 p.result.next c.requires.0 c.requires.2 e,
+        later c.args.period c.args.deadline c.args.low.0 c.args.high.0 p.result.next c.requires.0 c.requires.2 (rw p.ensures.0 at p.ensures.1),
       ),
     )

@@ -1,43 +1,35 @@
--- `sender::sender_at`: the loop has found no row so far.
--- b is what the code found out of row i, where no row before it was the one
-use Rattle.std.specs.Prelude.{◌+◌, ◌<◌, ◌≡◌}
-use Rattle.common.specs.Words.{ℕ, arith, Bool, true, false, not, sym}
-use Rattle.common.proofs.Rows.{first_bad, first_bad_none, first_bad_more, first_bad_found}
+-- `sender::sender_at`: what the search finds is the first row that sent the message.
+use Rattle.std.specs.Option.{unwrap_or}
+use Rattle.std.specs.Prelude.{◌<◌, ◌≤◌, ◌≡◌, Option, Some, None, MatchOption}
+use Rattle.common.specs.Words.{ℕ, Bool, true, false, not, arith, rules, sym, ◌∙◌}
+use Rattle.common.specs.Tests.{tests}
+use Rattle.std.proofs.lemmas.Iterator.{first_from_Range}
+use Rattle.common.proofs.Rows.{first_bad, first_bad_only}
 use Rattle.model.specs.Model.{sent_by}
-use Rattle.counting.specs.Columns.{ordered_at}
+use Rattle.plan.specs.Plan.{queue_at}
 use Rattle.counting.proofs.sender.sender_at.Goals as goal
 
-module _ (s : ℕ → Bool) (i : ℕ) (none : first_bad (λ j. not (s j)) i ≡ i) (b : Bool) (e : b ≡ s i) where
-  found : (n : ℕ) → i < n → b ≡ true → i ≡ first_bad (λ j. not (s j)) n
-  found n l h = sym (first_bad_found _ i n l none (rw (← e, h)))
-
-  more : b ≡ false → first_bad (λ j. not (s j)) (i + 1) ≡ i + 1
-  more h = first_bad_more _ i none (rw (← e, h))
-
-pub loop-row-init : goal.loop-row-init
-loop-row-init c = (omega arith, first_bad_none _)
-
-pub sent_by-requires : goal.sent_by-requires
-sent_by-requires c =
-    (c.requires.0, omega arith, c.requires.1)
-
-pub returns-then-sent_by : goal.returns-then-sent_by
-returns-then-sent_by c =
-    let a = c.args in
-    found (sent_by (ordered_at a.sends.now a.period.now a.deadline.now a.priority.now a.tasks a.queue) a.at.0 a.n.0)
-    c.loop-row.row c.loop-row.invariant.1
-    c.sent_by.result c.sent_by.ensures a.tasks (omega arith) c.if-sent_by.true
-
-pub loop-row-preserved : goal.loop-row-preserved
-loop-row-preserved c =
-    let a = c.args in (
-      omega arith,
-      more (sent_by (ordered_at a.sends.now a.period.now a.deadline.now a.priority.now a.tasks a.queue) a.at.0 a.n.0)
-          c.loop-row.row c.loop-row.invariant.1
-          c.sent_by.result c.sent_by.ensures c.if-sent_by.false,
-    )
+first_row : (s : ℕ → Bool) (n : ℕ) (r : Option ℕ) →
+    MatchOption r ((k : ℕ) → 0 ≤ k → k < n → s k ≡ false)
+    (λ i. (0 ≤ i) × (i < n) × (s i ≡ true) × ((k : ℕ) → 0 ≤ k → k < i → s k ≡ false)) →
+    unwrap_or r n ≡ first_bad (λ i. not (s i)) n
+first_row s n (Some i) h =
+    sym (first_bad_only _ n i (record {
+      within = omega (arith, h.1);
+      before = λ k l. rw (h.3 k (omega arith) l);
+      bad = λ l. rw h.2;
+    }))
+first_row s n None h =
+    sym (first_bad_only _ n n (record {
+      within = omega arith;
+      before = λ k l. rw (h k (omega arith) l);
+      bad = λ l. absurd (omega (arith, l));
+    }))
 
 pub returns : goal.returns
 returns c =
-    let e : c.loop-row.row ≡ c.args.tasks = omega arith in
-    sym (rw e at c.loop-row.invariant.1)
+    let sent = sent_by (queue_at c.args.plan.now c.args.queue) c.args.at.0 c.args.n.0 in
+    c.unwrap_or.ensures
+    ∙ first_row sent c.args.plan.now.tasks c.find.result
+    (first_from_Range _ _ _ _ (λ i. sent i ≡ true) (λ i. sent i ≡ false) c.find.ensures.ran (λ x q k. search (rules, tests))
+    (λ x q k. search (rules, tests)))

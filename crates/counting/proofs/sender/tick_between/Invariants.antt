@@ -2,13 +2,13 @@
 use Rattle.std.specs.Prelude.{◌≤◌, ◌<◌, ◌-◌}
 use Rattle.model.specs.Model.{up_to}
 use Rattle.plan.specs.Limits.{last_tick}
-use Rattle.counting.specs.Columns.{columns_at}
+use Rattle.plan.specs.Plan.{queue_at}
 use Rattle.counting.proofs.sender.tick_between.Given as goal
 
 abbrev pub invariant-loop-late : goal.invariant-loop-late
 invariant-loop-late l =
-    let q = columns_at l.sends l.period l.deadline l.tasks l.queue in
-    (l.early < l.late) × (l.late ≤ last_tick) × (up_to q l.early < l.n.0) × (l.n.0 ≤ up_to q l.late)
+    (l.early < l.late) × (l.late ≤ last_tick)
+    × (up_to (queue_at l.plan l.queue) l.early < l.n.0) × (l.n.0 ≤ up_to (queue_at l.plan l.queue) l.late)
 
 abbrev pub decreases-loop-late : goal.decreases-loop-late
 decreases-loop-late l = l.late - l.early

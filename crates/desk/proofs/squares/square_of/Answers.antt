@@ -1,19 +1,8 @@
--- `desk::squares::square_of`: the loop fills the square from the front, a row a turn.
-use Rattle.std.specs.Prelude.{◌≡◌}
-use Rattle.common.specs.Words.{rules}
-use Rattle.common.specs.Table.{table_none, table_more, table_all}
+-- `desk::squares::square_of`: the square is made row by row.
+use Rattle.common.specs.Words.{ℕ, [], get_or, rules}
+use Rattle.plan.proofs.Made.{made}
+use Rattle.desk.specs.Desk.{row_of}
 use Rattle.desk.proofs.squares.square_of.Goals as goal
 
-pub loop-q-init : goal.loop-q-init
-loop-q-init c = search (rules, table_none)
-
-pub loop-q-preserved : goal.loop-q-preserved
-loop-q-preserved c =
-    let l = c.loop-q in
-    (search rules, search rules, rw c.row_of.ensures (table_more _ l.square l.q (search rules) l.invariant.2))
-
 pub returns : goal.returns
-returns c =
-    let l = c.loop-q in
-    let e : l.q ≡ 8 = search rules in
-    table_all _ l.square 8 l.invariant.1 (rw e at l.invariant.2)
+returns c = made _ _ (λ (q : ℕ). row_of (get_or c.args.masks.now q 0)) [] 8 c.from_fn.ensures.items (λ q y f l k. search rules)

@@ -6,20 +6,17 @@ use Rattle.digits.proofs.hex.put_bytes.Goals as goal
 
 pub loop-k-init : goal.loop-k-init
 unfolding digits
-loop-k-init c = (search rules, refl, refl)
+loop-k-init c = (refl, refl)
 
 pub loop-k-preserved : goal.loop-k-preserved
 loop-k-preserved c =
-    let p = c in
-    let l = p.loop-k in
-    let a = p.args in
-    let e = p.put_byte.ensures in (
-      search rules,
-      ap length e ∙ simp length-sets l.invariant.1,
-      rw (e, l.invariant.2) (digits_more a.bytes.now a.out.now a.at l.k (search rules)),
+    let l = c.loop-k in
+    let e = c.put_byte.ensures in (
+      ap length e ∙ simp length-sets l.invariant.0,
+      rw (e, l.invariant.1) (digits_more c.args.bytes.now c.args.out.now c.args.at l.k (search rules)),
     )
 
 pub returns : goal.returns
 returns c =
     let l = c.loop-k in
-    rw (take_all l.k c.args.bytes.now (search rules)) at l.invariant.2
+    rw (take_all l.k c.args.bytes.now (search rules)) at l.invariant.1

@@ -1,6 +1,5 @@
--- `digits::numbers::put_number`: a turn writes the last byte of what is left.
--- what is left to write leads to the same end
-use Rattle.std.specs.Prelude.{◌-◌, ◌≤◌, ◌≡◌}
+-- `digits::numbers::put_number`: what is left to write leads to the same end.
+use Rattle.std.specs.Prelude.{◌≡◌}
 use Rattle.common.specs.Words.{length, sets}
 use Rattle.digits.specs.Hex.{digits}
 use Rattle.digits.specs.Numbers.{in_bytes}
@@ -8,8 +7,5 @@ use Rattle.digits.proofs.numbers.put_number.Given as goal
 
 abbrev pub invariant-loop-k : goal.invariant-loop-k
 invariant-loop-k l =
-    (l.k ≤ l.width) × (length l.out ≡ length l.initial.out)
-    × (sets l.out l.at (digits (in_bytes (l.width - l.k) l.rest)) ≡ sets l.initial.out l.at (digits (in_bytes l.width l.number)))
-
-abbrev pub decreases-loop-k : goal.decreases-loop-k
-decreases-loop-k l = l.width - l.k
+    (length l.out ≡ length l.initial.out)
+    × (sets l.out l.at (digits (in_bytes l.k l.rest)) ≡ sets l.initial.out l.at (digits (in_bytes l.width l.number)))

@@ -9,6 +9,4 @@ use Rattle.frames.proofs.answers.write_bad.Goals as goal
 pub returns : goal.returns
 unfolding bad_bytes
 returns c =
-    let e = c in
-    let p = e in
-    ended (in_bytes 3 0x7ff000) _ _ _ 6 _ p.put_number.ensures e.end_line.ensures (omega (arith, bytes_length 3 0x7ff000))
+    ended (in_bytes 3 0x7ff000) _ _ _ 6 _ c.put_number.ensures c.end_line.ensures (omega (arith, bytes_length 3 0x7ff000))

@@ -9,6 +9,4 @@ use Rattle.frames.proofs.answers.write_empty.Goals as goal
 pub returns : goal.returns
 unfolding empty_bytes
 returns c =
-    let e = c in
-    let p = e in
-    ended (in_bytes 1 0x87) _ _ _ 2 _ p.put_number.ensures e.end_line.ensures (omega (arith, bytes_length 1 0x87))
+    ended (in_bytes 1 0x87) _ _ _ 2 _ c.put_number.ensures c.end_line.ensures (omega (arith, bytes_length 1 0x87))

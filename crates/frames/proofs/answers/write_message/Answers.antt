@@ -10,11 +10,7 @@ use Rattle.frames.proofs.answers.write_message.Goals as goal
 pub returns : goal.returns
 unfolding message_bytes
 returns c =
-    let e = c in
-    let p = e in
-    let q = p in
-    let r = q in
-    let a = r.args in
+    let a = c.args in
     three (in_bytes 1 0x85) (in_bytes 6 a.number.0) a.payload.now _ _ _ _ _ 2 14 (14 + 2 * length a.payload.now) _
-    r.put_number.ensures q.put_number-2.ensures p.put_bytes.ensures e.end_line.ensures
+    c.put_number.ensures c.put_number-2.ensures c.put_bytes.ensures c.end_line.ensures
     (omega (arith, bytes_length 1 0x85)) (omega (arith, bytes_length 6 a.number.0)) (omega arith)

@@ -10,13 +10,10 @@ use Rattle.frames.proofs.answers.write_sizes.Goals as goal
 pub returns : goal.returns
 unfolding sizes_bytes
 returns c =
-    let e = c in
-    let p = e in
-    let q = p in
-    let a = q.args in
+    let n = length c.args.sizes.now in
     let front = in_bytes 1 0x81 in
-    let sizes = each_size a.sizes a.queues in
+    let sizes = each_size c.args.sizes.now n in
     let l : length (front ++ sizes) ≡ length front + length sizes = length-append front sizes in
-    ended (front ++ sizes) _ _ _ (2 + 4 * a.queues) _
-    (next front sizes _ _ _ 2 q.put_number.ensures p.put_sizes.ensures (omega (arith, bytes_length 1 0x81)))
-    e.end_line.ensures (omega (arith, bytes_length 1 0x81, sizes_length a.sizes a.queues))
+    ended (front ++ sizes) _ _ _ (2 + 4 * n) _
+    (next front sizes _ _ _ 2 c.put_number.ensures c.put_sizes.ensures (omega (arith, bytes_length 1 0x81)))
+    c.end_line.ensures (omega (arith, bytes_length 1 0x81, sizes_length c.args.sizes.now n))

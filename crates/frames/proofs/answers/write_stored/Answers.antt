@@ -9,11 +9,7 @@ use Rattle.frames.proofs.answers.write_stored.Goals as goal
 pub returns : goal.returns
 unfolding stored_bytes
 returns c =
-    let e = c in
-    let p = e in
-    let q = p in
-    let r = q in
-    let a = r.args in
+    let a = c.args in
     three (in_bytes 1 0x84) (in_bytes 6 a.number.0) (in_bytes 2 a.slot.0) _ _ _ _ _ 2 14 18 _
-    r.put_number.ensures q.put_number-2.ensures p.put_number-3.ensures e.end_line.ensures
+    c.put_number.ensures c.put_number-2.ensures c.put_number-3.ensures c.end_line.ensures
     (omega (arith, bytes_length 1 0x84)) (omega (arith, bytes_length 6 a.number.0)) (omega (arith, bytes_length 2 a.slot.0))

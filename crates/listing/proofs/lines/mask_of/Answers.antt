@@ -14,7 +14,7 @@ pub overflow_add-mask : goal.overflow_add-mask
 overflow_add-mask c =
     let l = c.loop-i in
     let a = c.args in
-    rw (l.invariant.2, c.bit_of-mask.ensures, l.invariant.1) (omega (arith, mask_fits (sender a.sends a.q) l.i c.loop-i-test.true))
+    rw (l.invariant.2, c.bit_of-mask.ensures, l.invariant.1) (omega (arith, mask_fits (sender a.sends.now a.q) l.i c.loop-i-test.true))
 
 pub overflow_mul-bit : goal.overflow_mul-bit
 overflow_mul-bit c = let l = c.loop-i in omega (arith, bit_fits l.i l.invariant.0, l.invariant.1)
@@ -25,7 +25,7 @@ loop-i-preserved c =
     let a = c.args in (
       search rules,
       rw (l.invariant.1, add-one l.i, pow-suc 2 l.i),
-      rw (l.invariant.2, c.bit_of-mask.ensures, l.invariant.1) (mask_more (sender a.sends a.q) l.i),
+      rw (l.invariant.2, c.bit_of-mask.ensures, l.invariant.1) (mask_more (sender a.sends.now a.q) l.i),
     )
 
 pub returns : goal.returns

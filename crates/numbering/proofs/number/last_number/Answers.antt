@@ -2,11 +2,6 @@
 use Rattle.model.specs.Model.{last}
 use Rattle.numbering.proofs.number.last_number.Goals as goal
 
-pub up_to-requires : goal.up_to-requires
-up_to-requires c =
-    let p = c.requires in
-    (p.0, rw c.release_of-at.ensures p.1)
-
 pub returns : goal.returns
 unfolding last
 returns c = rw (c.up_to.ensures, c.release_of-at.ensures)

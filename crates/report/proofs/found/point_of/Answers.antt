@@ -1,35 +1,31 @@
 -- `report::found::point_of`: a turn goes past one byte more.
-use Rattle.std.specs.Prelude.{◌≡◌}
-use Rattle.common.specs.Words.{refl, ◌∙◌, ap, length, take, get_or, min, rules, arith}
+use Rattle.std.specs.Prelude.{◌≡◌, ◌≤◌}
+use Rattle.common.specs.Words.{refl, ◌∙◌, ap, length, get_or, take, length-take, take_all, arith}
 use Rattle.report.specs.Places.{past, behind, point_of}
 use Rattle.report.specs.Laws.{point_more, point_low, take_least}
 use Rattle.report.proofs.found.point_of.Goals as goal
 
-pub loop-i-init : goal.loop-i-init
+pub loop-byte-init : goal.loop-byte-init
 unfolding behind
-loop-i-init c = (search rules, refl)
+loop-byte-init c = refl
 
 pub past-point-requires : goal.past-point-requires
 past-point-requires c =
-    let l = c.loop-i in
-    let m = c in
-    let a = m.args in
-    let t = c.loop-i-test.true in
-    let low = point_low a.text.now l.i in
-    rw l.invariant.1 (omega (arith, low.0, t, m.least-n.ensures.2), omega (arith, low.1, t, m.least-n.ensures.2))
+    let before = take c.min.result c.args.text.now in
+    let i = c.loop-byte.byte-index in
+    let few : length before ≤ length c.args.text.now = omega (arith, length-take c.min.result c.args.text.now) in
+    let low = point_low before i in
+    rw c.loop-byte.invariant (omega (arith, low.0, c.loop-byte-test.true, few), omega (arith, low.1, c.loop-byte-test.true, few))
 
-pub loop-i-preserved : goal.loop-i-preserved
-loop-i-preserved c =
-    let l = c.loop-i in
-    let m = c in
-    let a = m.args in
-    let more = point_more a.text.now l.i (omega (arith, c.loop-i-test.true, m.least-n.ensures.2)) in
-    (search rules, c.past-point.ensures ∙ ap (λ p. past p (get_or a.text.now l.i 0)) l.invariant.1 ∙ more)
+pub loop-byte-preserved : goal.loop-byte-preserved
+loop-byte-preserved c =
+    let before = take c.min.result c.args.text.now in
+    let i = c.loop-byte.byte-index in
+    c.past-point.ensures ∙ ap (λ p. past p (get_or before i 0)) c.loop-byte.invariant ∙ point_more before i c.loop-byte-test.true
 
 pub returns : goal.returns
 returns c =
-    let l = c.loop-i in
-    let m = c in
-    let a = m.args in
-    let e : l.i ≡ min a.place (length a.text.now) = omega (arith, l.invariant.0, c.loop-i-test.false, m.least-n.ensures.0) in
-    l.invariant.1 ∙ ap point_of (ap (λ n. take n a.text.now) e ∙ take_least a.place a.text.now)
+    let text = c.args.text.now in
+    let before = take c.min.result text in
+    let whole : take c.loop-byte.byte-index before ≡ before = take_all c.loop-byte.byte-index before c.loop-byte-test.false in
+    c.loop-byte.invariant ∙ ap point_of (whole ∙ ap (λ n. take n text) c.min.ensures ∙ take_least c.args.place text)

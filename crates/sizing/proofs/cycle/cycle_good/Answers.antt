@@ -10,19 +10,19 @@ use Rattle.sizing.proofs.cycle.cycle_good.Goals as goal
 
 pub returns-in_default : goal.returns-in_default
 returns-in_default c =
-    let h : longest_hyperperiod < hyperperiod (queue_at c.args.plan c.args.queue) =
-    capped_over longest_hyperperiod _ (sym c.hyperperiod_of-cycle.ensures ∙ c.in_default.is) in
+    let h : longest_hyperperiod < hyperperiod (queue_at c.args.plan.now c.args.queue) =
+    capped_over longest_hyperperiod _ (sym c.hyperperiod_of.ensures ∙ c.in_default.is) in
     search tests
 
 pub messages_in-requires : goal.messages_in-requires
 messages_in-requires c =
-    let w = capped_within longest_hyperperiod (hyperperiod (queue_at c.args.plan c.args.queue)) _
-    (sym c.hyperperiod_of-cycle.ensures ∙ c.in-Within.is) in
+    let w = capped_within longest_hyperperiod (hyperperiod (queue_at c.args.plan.now c.args.queue)) _
+    (sym c.hyperperiod_of.ensures ∙ c.in-Some.is) in
     (c.requires, rw w.0 w.1)
 
 pub returns : goal.returns
 returns c =
-    let w = capped_within longest_hyperperiod (hyperperiod (queue_at c.args.plan c.args.queue)) _
-    (sym c.hyperperiod_of-cycle.ensures ∙ c.in-Within.is) in
+    let w = capped_within longest_hyperperiod (hyperperiod (queue_at c.args.plan.now c.args.queue)) _
+    (sym c.hyperperiod_of.ensures ∙ c.in-Some.is) in
     let h = w.1 in
     rw (c.messages_in.ensures, w.0) (search tests)

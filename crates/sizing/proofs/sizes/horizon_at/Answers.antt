@@ -1,17 +1,16 @@
--- `sizing::sizes::horizon_at`: nothing is outdated before the first messages have been wanted long enough.
-use Rattle.std.specs.Prelude.{◌≡◌}
-use Rattle.common.specs.Words.{arith, sym, ap}
+-- `sizing::sizes::horizon_at`: a release is no later than the tick.
+use Rattle.common.specs.Words.{arith, ◌∙◌, ap}
+use Rattle.model.specs.Model.{released}
 use Rattle.calendar.specs.Calendar.{tick}
-use Rattle.sizing.specs.Needs.{horizon_for, horizon_back}
+use Rattle.calendar.specs.declared.Job.{Job}
+use Rattle.sizing.specs.Needs.{horizon_back}
 use Rattle.sizing.proofs.sizes.horizon_at.Goals as goal
-
-pub returns-then-at-wanted : goal.returns-then-at-wanted
-returns-then-at-wanted c =
-    let a = c.args in
-    let e : horizon_for a.chart a.wanted a.at.0 ≡ 0 = omega (arith, horizon_back a.chart a.wanted a.at.0) in
-    ap tick (sym e)
 
 pub release_of-requires : goal.release_of-requires
 release_of-requires c =
     let a = c.args in
-    omega (arith, horizon_back a.chart a.wanted a.at.0)
+    rw (c.job_at-job.ensures, c.saturating_sub.ensures) (omega (arith, horizon_back a.chart a.wanted a.at.0))
+
+pub returns : goal.returns
+returns c =
+    c.release_of.ensures ∙ ap (λ (k : Job). tick (released c.args.chart k.0)) (rw c.saturating_sub.ensures at c.job_at-job.ensures)

@@ -1,17 +1,21 @@
 -- `sizing::sizes::row_slots`: the loop keeps the greatest need of the jobs passed, and asks one job for each horizon: the last that is
 -- released before it moves. The second hyperperiod ends before the last tick.
 use Rattle.std.specs.Prelude.{◌*◌, ◌+◌, ◌/◌, ◌<◌, ◌≤◌, ◌≡◌}
-use Rattle.common.specs.Words.{ℕ, max, List, Bool, arith, refl, sym, ap, ◌∙◌, div-le_self, div-mul-le_self, mul-le-mul_right}
+use Rattle.common.specs.Words.{ℕ, max, arith, refl, sym, ap, ◌∙◌, div-le_self, div-mul-le_self, mul-le-mul_right}
 use Rattle.common.specs.Totals.{most}
-use Rattle.model.specs.Model.{Queue, Valid, Sender, release_of, deadline_of}
+use Rattle.model.specs.Model.{Queue, Valid, Sender, release_of, deadline_of, receiver_period}
+use Rattle.model.proofs.Order.{period_pos}
+use Rattle.model.proofs.Outdating.{wanted_fits}
 use Rattle.calendar.specs.declared.Tick.{Tick}
 use Rattle.plan.specs.Limits.{last_tick, longest_period, longest_hyperperiod}
-use Rattle.counting.specs.Columns.{ordered_at, Lent, valid_ordered, up_to_ordered}
+use Rattle.plan.specs.Plan.{queue_at, Usable}
+use Rattle.plan.specs.declared.Plan.{Plan}
+use Rattle.counting.specs.Lent.{lent}
 use Rattle.counting.specs.Bounds.{row_positive}
-use Rattle.sizing.specs.Needs.{horizon_for, need_for, horizon_back, horizon_ahead, horizon_stays}
+use Rattle.sizing.specs.Needs.{horizon_for, need_for, row_slots_own, horizon_back, horizon_ahead, horizon_stays}
 use Rattle.sizing.specs.Jumps.{needs_jump}
 use Rattle.sizing.proofs.sizes.row_slots.Goals as goal
-use Rattle.sizing.proofs.sizes.row_slots.Goals.{Start, In-loop-k, After-horizon_at-horizon, After-last_before-last}
+use Rattle.sizing.proofs.sizes.row_slots.Goals.{After-horizon_at-horizon}
 
 -- the jobs of the second hyperperiod
 in_time : (q : Queue) → Valid q → (i H k : ℕ) → Sender q i → q.period i ≤ longest_period → H ≤ longest_hyperperiod →
@@ -24,10 +28,9 @@ in_time q v i H k s f h l =
       mul-le-mul_right {m = k} {n = H / q.period i} (q.period i) (omega arith),
     )
 
-module _ {sends : List Bool} {period deadline : List ℕ} {tasks q : ℕ} (l : Lent sends period deadline tasks q) (priority : List ℕ)
-    (chart wanted task ticks : ℕ) where
+module _ {p : Plan} {q : ℕ} (u : Usable p q) (chart wanted task ticks : ℕ) where
   abbrev columns : Queue
-  columns = ordered_at sends period deadline priority tasks q
+  columns = queue_at p q
 
   abbrev jobs : ℕ
   jobs = ticks / columns.period task
@@ -38,7 +41,7 @@ module _ {sends : List Bool} {period deadline : List ℕ} {tasks q : ℕ} (l : L
 
   module _ (pos : 1 ≤ chart) (s : Sender columns task) (few : ticks ≤ longest_hyperperiod) where
     within : (x : ℕ) → x < jobs → deadline_of columns task (jobs + x) ≤ last_tick
-    within x h = in_time columns (valid_ordered l priority) task ticks x s (l.periods_fit task s.row) few h
+    within x h = in_time columns u.valid task ticks x s (u.periods_fit task s.row) few h
 
     jobs_small : jobs ≤ longest_hyperperiod
     jobs_small = omega (arith, div-le_self ticks (columns.period task), few)
@@ -58,7 +61,7 @@ module _ {sends : List Bool} {period deadline : List ℕ} {tasks q : ℕ} (l : L
 
     outdated_before : (x : ℕ) → horizon x < deadline_of columns task (jobs + x)
     outdated_before x =
-        omega (arith, horizon_back chart wanted (release_of columns task (jobs + x)), (row_positive l task s.row).1)
+        omega (arith, horizon_back chart wanted (release_of columns task (jobs + x)), (row_positive (lent p q u) task s.row).1)
 
     -- the job that is asked: it has the same horizon, h
     module _ (k last h : ℕ) (f : h ≡ horizon k) (t : k < jobs) (e : (last < jobs) × ((jobs + last) * columns.period task < h + wanted + chart) ×
@@ -77,111 +80,72 @@ module _ {sends : List Bool} {period deadline : List ℕ} {tasks q : ℕ} (l : L
 
       needs_last : max (most (λ x. need_for columns chart wanted task (jobs + x)) k) (need_for columns chart wanted task (jobs + last))
           ≡ most (λ x. need_for columns chart wanted task (jobs + x)) (last + 1)
-      needs_last = sym (needs_jump columns (valid_ordered l priority) task s chart wanted jobs k last pos reached early)
+      needs_last = sym (needs_jump columns u.valid task s chart wanted jobs k last pos reached early)
 
--- one turn of the loop
-module _ (c : In-loop-k) where
-  abbrev columns_of : Queue
-  columns_of = let a = c.args in columns c.requires.0 a.priority.now a.chart a.wanted a.task a.ticks
-
-  abbrev jobs_of : ℕ
-  jobs_of = let a = c.args in jobs c.requires.0 a.priority.now a.chart a.wanted a.task a.ticks
-
-  in_time_of : (x : ℕ) → x < jobs_of → deadline_of columns_of c.args.task (jobs_of + x) ≤ last_tick
-  in_time_of =
-      let a = c.args in
-      let r = c.requires in
-      within r.0 a.priority.now a.chart a.wanted a.task a.ticks r.1 r.4 r.5
-
-  small : jobs_of ≤ longest_hyperperiod
-  small =
-      let a = c.args in
-      let r = c.requires in
-      jobs_small r.0 a.priority.now a.chart a.wanted a.task a.ticks r.1 r.4 r.5
-
--- the horizon that was found
+-- the horizon that was found, of a receiver with its own period that wants its messages for so long
 module _ (c : After-horizon_at-horizon) where
-  abbrev horizon_of : ℕ → ℕ
-  horizon_of = let a = c.args in horizon c.requires.0 a.priority.now a.chart a.wanted a.task a.ticks
+  abbrev queue_of : Queue
+  queue_of = queue_at c.args.plan.now c.args.queue
 
-  found : c.horizon_at-horizon.result.0 ≡ horizon_of c.loop-k.k
+  abbrev chart_of : ℕ
+  chart_of = receiver_period queue_of
+
+  abbrev wanted_of : ℕ
+  wanted_of = c.wanted_for-wanted.result
+
+  chart_pos : 1 ≤ chart_of
+  chart_pos = let u = c.requires.0 in period_pos queue_of u.valid queue_of.receiver u.valid.receiver_row
+
+  chart_fits : chart_of ≤ longest_period
+  chart_fits = let u = c.requires.0 in u.periods_fit queue_of.receiver u.valid.receiver_row
+
+  wanted_small : wanted_of ≤ longest_period
+  wanted_small = omega (arith, c.wanted_for-wanted.ensures queue_of refl, wanted_fits queue_of c.requires.0.valid, chart_fits)
+
+  found : c.horizon_at-horizon.result.0 ≡ horizon c.requires.0 chart_of wanted_of c.args.task c.args.ticks c.loop-k.k
   found = rw c.release_of-release.ensures at (ap (λ (t : Tick). t.0) c.horizon_at-horizon.ensures)
 
   found_within : c.horizon_at-horizon.result.0 ≤ last_tick
   found_within =
-      let a = c.args in
       let r = c.requires in
-      omega (arith, found, horizon_within r.0 a.priority.now a.chart a.wanted a.task a.ticks r.1 r.4 r.5 c.loop-k.k c.loop-k-test.true)
-
-  -- job k is released before it moves
-  found_ahead : release_of (columns c.requires.0 c.args.priority.now c.args.chart c.args.wanted c.args.task c.args.ticks) c.args.task
-      (jobs c.requires.0 c.args.priority.now c.args.chart c.args.wanted c.args.task c.args.ticks + c.loop-k.k)
-      < c.horizon_at-horizon.result.0 + c.args.wanted + c.args.chart
-  found_ahead =
-      let a = c.args in
-      let r = c.requires in
-      rw found (ahead r.0 a.priority.now a.chart a.wanted a.task a.ticks r.1 r.4 r.5 c.loop-k.k)
-
-pub nonzero_div-jobs : goal.nonzero_div-jobs
-nonzero_div-jobs c = (row_positive c.requires.0 c.args.task c.requires.4.row).0
+      omega (arith, found, horizon_within r.0 chart_of wanted_of c.args.task c.args.ticks chart_pos r.1 r.2 c.loop-k.k c.loop-k-test.true)
 
 pub loop-k-init : goal.loop-k-init
 unfolding most
 loop-k-init c = (omega arith, refl)
 
-pub overflow_add-jobs : goal.overflow_add-jobs
-overflow_add-jobs c = omega (arith, small (goal.at.overflow_add-jobs c).In-loop-k, c.loop-k-test.true)
-
-pub release_of-release-requires : goal.release_of-release-requires
-release_of-release-requires c =
-    omega (arith, in_time_of (goal.at.release_of-release-requires c).In-loop-k c.loop-k.k c.loop-k-test.true)
-
-pub horizon_at-horizon-requires : goal.horizon_at-horizon-requires
-horizon_at-horizon-requires c = c.requires.1
-
-pub overflow_add-horizon : goal.overflow_add-horizon
-overflow_add-horizon c =
-    omega (arith, found_within (goal.at.overflow_add-horizon c).After-horizon_at-horizon, c.requires.3)
-
 pub overflow_add-horizon-in-loop-k : goal.overflow_add-horizon-in-loop-k
 overflow_add-horizon-in-loop-k c =
-    omega (arith, found_within (goal.at.overflow_add-horizon-in-loop-k c).After-horizon_at-horizon, c.requires.2, c.requires.3)
-
-pub last_before-last-requires : goal.last_before-last-requires
-last_before-last-requires c =
-    let v = goal.at.last_before-last-requires c in (
-      (row_positive c.requires.0 c.args.task c.requires.4.row).0,
-      omega (arith, c.loop-k-test.true),
-      omega (arith, small v.In-loop-k),
-      omega (
-        arith,
-        found_ahead v.After-horizon_at-horizon,
-        mul-le-mul_right {m = jobs_of v.In-loop-k} {n = jobs_of v.In-loop-k + c.loop-k.k} ((columns_of v.In-loop-k).period c.args.task) (omega arith),
-      ),
-    )
+    let v = (goal.at.overflow_add-horizon-in-loop-k c).After-horizon_at-horizon in
+    omega (arith, found_within v, wanted_small v, chart_fits v)
 
 pub need_of-need-requires : goal.need_of-need-requires
 need_of-need-requires c =
-    let v = goal.at.need_of-need-requires c in
-    let a = c.args in
+    let v = (goal.at.need_of-need-requires c).After-horizon_at-horizon in
     let r = c.requires in
-    let p = asked r.0 a.priority.now a.chart a.wanted a.task a.ticks r.1 r.4 r.5 c.loop-k.k c.last_before-last.result
-    c.horizon_at-horizon.result.0 (found v.After-horizon_at-horizon) c.loop-k-test.true c.last_before-last.ensures in
-    rw c.deadline_of-due.ensures (r.0, p.0, p.1, r.4.row)
+    let p = asked r.0 (chart_of v) (wanted_of v) c.args.task c.args.ticks (chart_pos v) r.1 r.2 c.loop-k.k c.last_before-last.result
+    c.horizon_at-horizon.result.0 (found v) c.loop-k-test.true c.last_before-last.ensures in
+    rw c.deadline_of-due.ensures (lent _ _ r.0, p.0, p.1, r.1.row)
 
 pub loop-k-preserved : goal.loop-k-preserved
 loop-k-preserved c =
-    let v = goal.at.loop-k-preserved c in
+    let v = (goal.at.loop-k-preserved c).After-horizon_at-horizon in
     let a = c.args in
     let r = c.requires in
     let last = c.last_before-last.result in
     let h = c.horizon_at-horizon.result.0 in
-    let f = found v.After-horizon_at-horizon in
-    let q = columns_of v.In-loop-k in
-    let same = same_last r.0 a.priority.now a.chart a.wanted a.task a.ticks r.1 r.4 r.5 c.loop-k.k last h f c.loop-k-test.true
+    let q = queue_of v in
+    let same = same_last r.0 (chart_of v) (wanted_of v) a.task a.ticks (chart_pos v) r.1 r.2 c.loop-k.k last h (found v) c.loop-k-test.true
     c.last_before-last.ensures in
-    let e : c.need_of-need.result ≡ need_for q a.chart a.wanted a.task (jobs_of v.In-loop-k + last) =
-    rw (← same, ← up_to_ordered r.0 a.priority.now h) (rw c.deadline_of-due.ensures at c.need_of-need.ensures) in
-    let jump = needs_last r.0 a.priority.now a.chart a.wanted a.task a.ticks r.1 r.4 r.5 c.loop-k.k last h f c.loop-k-test.true
+    let e : c.need_of-need.result ≡ need_for q (chart_of v) (wanted_of v) a.task (a.ticks / q.period a.task + last) =
+    rw (← same) (rw c.deadline_of-due.ensures at c.need_of-need.ensures) in
+    let jump = needs_last r.0 (chart_of v) (wanted_of v) a.task a.ticks (chart_pos v) r.1 r.2 c.loop-k.k last h (found v) c.loop-k-test.true
     c.last_before-last.ensures in
-    (omega (arith, c.last_before-last.ensures.0), c.larger-most.ensures ∙ rw (e, c.loop-k.invariant.1) jump)
+    (omega (arith, c.last_before-last.ensures.0), c.max-most.ensures ∙ rw (e, c.loop-k.invariant.1) jump)
+
+pub returns : goal.returns
+returns c =
+    let a = c.args in
+    let q = queue_at a.plan.now a.queue in
+    let e : c.loop-k.k ≡ a.ticks / q.period a.task = omega (arith, c.loop-k.invariant.0, c.loop-k-test.false) in
+    rw (e, c.wanted_for-wanted.ensures q refl) at c.loop-k.invariant.1 ∙ row_slots_own q a.ticks a.task

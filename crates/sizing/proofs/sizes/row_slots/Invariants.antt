@@ -1,14 +1,14 @@
 -- `sizing::sizes::row_slots`: the loop keeps the greatest need of the jobs passed, and asks one job for each horizon: the last that is
--- released before it moves. The second hyperperiod ends before the last tick.
+-- released before it moves.
 use Rattle.std.specs.Prelude.{◌+◌, ◌-◌, ◌≤◌, ◌≡◌}
 use Rattle.common.specs.Totals.{most}
-use Rattle.counting.specs.Columns.{ordered_at}
+use Rattle.plan.specs.Plan.{queue_at}
 use Rattle.sizing.specs.Needs.{need_for}
 use Rattle.sizing.proofs.sizes.row_slots.Given as goal
 
 abbrev pub invariant-loop-k : goal.invariant-loop-k
 invariant-loop-k l =
-    let q = ordered_at l.sends l.period l.deadline l.priority l.tasks l.queue in
+    let q = queue_at l.plan l.queue in
     (l.k ≤ l.jobs) × (l.most ≡ Rattle.common.specs.Totals.most (λ k. need_for q l.chart l.wanted l.task (l.jobs + k)) l.k)
 
 abbrev pub decreases-loop-k : goal.decreases-loop-k

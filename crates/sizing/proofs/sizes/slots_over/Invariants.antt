@@ -1,5 +1,5 @@
--- `sizing::sizes::slots_over`: the loop keeps the greatest share of the rows passed.
-use Rattle.std.specs.Prelude.{◌-◌, ◌≤◌, ◌≡◌}
+-- `sizing::sizes::slots_over`: the loop keeps the most that a row passed asks for.
+use Rattle.std.specs.Prelude.{◌≡◌}
 use Rattle.common.specs.Totals.{only, most}
 use Rattle.model.specs.Model.{row_slots}
 use Rattle.plan.specs.Plan.{queue_at}
@@ -7,8 +7,5 @@ use Rattle.sizing.proofs.sizes.slots_over.Given as goal
 
 abbrev pub invariant-loop-i : goal.invariant-loop-i
 invariant-loop-i l =
-    (l.i ≤ l.plan.tasks) ×
-    (l.greatest ≡ most (λ i. only ((queue_at l.plan l.queue).sends i) (row_slots (queue_at l.plan l.queue) l.ticks i)) l.i)
-
-abbrev pub decreases-loop-i : goal.decreases-loop-i
-decreases-loop-i l = l.plan.tasks - l.i
+    let q = queue_at l.plan l.queue in
+    l.greatest ≡ most (λ i. only (q.sends i) (row_slots q l.ticks i)) l.i

@@ -1,21 +1,8 @@
--- `soundness::square::square_of`: the loop fills the square from the front, a row a turn.
-use Rattle.std.specs.Prelude.{◌≡◌}
-use Rattle.common.specs.Words.{rules}
-use Rattle.common.specs.Table.{table_none, table_more, table_all}
+-- `soundness::square::square_of`: the array is made row by row.
+use Rattle.common.specs.Words.{[], rules}
 use Rattle.plan.specs.Square.{row_of}
+use Rattle.plan.proofs.Made.{made}
 use Rattle.soundness.proofs.square.square_of.Goals as goal
 
-pub loop-q-init : goal.loop-q-init
-loop-q-init c = search (rules, table_none)
-
-pub loop-q-preserved : goal.loop-q-preserved
-loop-q-preserved c =
-    let l = c.loop-q in
-    let a = c.args in
-    (search rules, search rules, rw c.row_of.ensures (table_more (row_of a.sends) l.square l.q (search rules) l.invariant.2))
-
 pub returns : goal.returns
-returns c =
-    let l = c.loop-q in
-    let e : l.q ≡ 8 = search rules in
-    table_all _ l.square 8 l.invariant.1 (rw e at l.invariant.2)
+returns c = made _ _ (row_of c.args.sends.now) [] 8 c.from_fn.ensures.items (λ q y f l k. search rules)

@@ -1,7 +1,8 @@
 -- `times::priorities::priority`: nothing there, no number, and a number.
-use Rattle.common.specs.Words.{arith}
+use Rattle.words.specs.Same.{kind_ne, kind_is, kind_apart}
+use Rattle.words.specs.Kinds.{NUMBER, ENDED}
 use Rattle.times.specs.Priorities.{priority}
-use Rattle.times.specs.Laws.{stopped_before}
+use Rattle.times.specs.Laws.{stopped_before, number_there}
 use Rattle.times.specs.PriorityLaws.{priority_unfit, priority_number}
 use Rattle.times.proofs.priorities.priority.Goals as goal
 
@@ -10,21 +11,19 @@ returns-in_default c =
     let a = c.args in
     rw c.unformed.ensures (stopped_before a.text.now priority a.went _ c.in_default.is)
 
-pub returns-then-number-ne-NUMBER : goal.returns-then-number-ne-NUMBER
-returns-then-number-ne-NUMBER c =
-    let k = c in
-    let p = k.args.text.now in
-    rw (c.in-To.is, c.unformed-then-number-ne-NUMBER.ensures, c.unfit.ensures)
-    (priority_unfit p _ k.spot_at-number.result k.spot_at-number.ensures c.if-number-ne-NUMBER.true)
+pub returns-then-ne : goal.returns-then-ne
+returns-then-ne c =
+    let n = c.spot_at-number in
+    rw (c.in-Ok.is, c.unformed-then-ne.ensures, c.unfit.ensures)
+    (priority_unfit c.args.text.now _ n.result n.ensures (kind_ne n.result.kind NUMBER c.if-ne.ensures))
 
 pub priority_of-requires : goal.priority_of-requires
 priority_of-requires c =
-    let k = c in
-    (k.spot_at-number.ensures.forward, k.spot_at-number.ensures.within (λ e. omega arith))
+    let n = c.spot_at-number in
+    (n.ensures.forward, n.ensures.within (kind_apart _ ENDED (number_there _ (kind_ne n.result.kind NUMBER c.if-ne.ensures))))
 
 pub returns : goal.returns
 returns c =
-    let k = c in
-    let p = k.args.text.now in
-    rw (c.in-To.is, priority_number p _ k.spot_at-number.result k.spot_at-number.ensures c.if-number-ne-NUMBER.false)
+    let n = c.spot_at-number in
+    rw (c.in-Ok.is, priority_number c.args.text.now _ n.result n.ensures (kind_is _ NUMBER (kind_ne n.result.kind NUMBER c.if-ne.ensures)))
     c.priority_of.ensures

@@ -1,0 +1,3 @@
+-- The pages of this crate's lemmas.
+pub mod Made
+pub mod Found

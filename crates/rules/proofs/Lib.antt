@@ -1,0 +1,2 @@
+-- The pages of this crate's lemmas.
+pub mod Found
