@@ -58,7 +58,8 @@ impl Stream {
     }
 }
 
-// Reads the input from its start into a buffer, until it ends or the buffer is full, and answers what came.
+// Reads the input from its start into a buffer, until it ends or the buffer is full, and answers what came. A turn goes on by as many bytes
+// as a read gave, which no iterator says.
 pub fn read_text(mut stdin: Stdin, text: &mut [u8]) -> &[u8]
     ensures { length result.now ≤ length text.old }
 {

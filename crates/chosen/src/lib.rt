@@ -13,6 +13,7 @@ ghost use Rattle.chosen.specs.Chosen.{threads_of, queues_of, chosen, at_or};
 
 use index::{Dictionary, QUEUED, Rows};
 use plan::Plan;
+use rows::Sort;
 
 // How many rows were chosen, and the first of them.
 #[derive(Clone, Copy)]
@@ -20,10 +21,6 @@ pub struct Chosen {
     pub count: usize,
     pub rows: [usize; Plan::TASKS],
 }
-
-const THREAD: usize = 5;
-
-const LINK: usize = 6;
 
 impl Chosen {
     const NONE: Chosen = Chosen {
@@ -67,7 +64,7 @@ pub fn threads(rows: &Rows<'_>) -> Chosen
 {
     let mut found = Chosen::NONE;
     for k in 0..rows.count {
-        if rows.cell(k, 0) == THREAD {
+        if rows.cell(k, 0) == Sort::Thread as usize {
             found = found.and(k);
         }
     }
@@ -80,7 +77,7 @@ fn is_queue(queued: &Dictionary<'_, QUEUED>, k: usize) -> bool
     ensures { result ≡ (eqb (cell (rows_of queued.now.rows) k 0) a_link
         && is_first queued.now.text.now 2 (rows_of queued.now.rows) k) }
 {
-    queued.rows.cell(k, 0) == LINK && queued.is_first(k)
+    queued.rows.cell(k, 0) == Sort::Link as usize && queued.is_first(k)
 }
 
 // The first connection to each queue.

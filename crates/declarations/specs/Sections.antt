@@ -6,19 +6,12 @@ use Rattle.words.specs.Kinds.{FEATURES, SUBCOMPONENTS, CONNECTIONS, PROPERTIES, 
 use Rattle.tokens.specs.Tokens.{Token}
 use Rattle.steps.specs.Steps.{next, is, the}
 use Rattle.phrases.specs.Phrases.{section_kind, skipped}
-use Rattle.rows.specs.Rows.{a_process, a_type, an_implementation}
+use Rattle.rows.specs.Rows.{a_process, a_type}
 use Rattle.rows.specs.Said.{Rule, quiet, ◌⨟◌, repeat, adding}
 use Rattle.properties.specs.Properties.{of_thread, of_process, none_or, properties_in}
 use Rattle.features.specs.Features.{features}
 use Rattle.threads.specs.Threads.{subcomponents}
 use Rattle.links.specs.Links.{connections}
-use Rattle.declarations.specs.declared.Sort.{Sort}
-
--- what a row of it begins with
-abbrev pub begun_by : Sort → ℕ
-begun_by Sort.Process = a_process
-begun_by Sort.Type = a_type
-begun_by Sort.Implementation = an_implementation
 
 -- ""features" .. in a thread_type", ""subcomponents" .. in a process_impl", ""connections" .. in a process_impl"
 unfoldable pub list_kind : ℕ → Kind → Bool

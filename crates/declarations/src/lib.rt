@@ -6,8 +6,9 @@ ghost use Rattle.common.specs.Words.{ℕ, List};
 ghost use Rattle.tokens.specs.Tokens.{from};
 ghost use Rattle.steps.specs.Steps.{◌⟫◌, head};
 ghost use Rattle.steps.specs.Lifted.{lift};
+ghost use Rattle.rows.specs.Rows.{begun_by};
 ghost use Rattle.rows.specs.States.{state_of, does};
-ghost use Rattle.declarations.specs.Sections.{begun_by, list_kind, allowed, listed, list_in, properties_of, section, sections};
+ghost use Rattle.declarations.specs.Sections.{list_kind, allowed, listed, list_in, properties_of, section, sections};
 ghost use Rattle.declarations.specs.Declarations.{maybe_extends, type_end, thread_type, implementation_end, implementation, thread_implementation};
 ghost use Rattle.declarations.specs.Declarations.{process_implementation};
 
@@ -15,18 +16,10 @@ use features::features;
 use links::connections;
 use phrases::{begins_section, classifier, nothing, scopes, skipped};
 use properties::{Of, properties_in};
-use rows::{NO_PROPERTIES, Reading, merged, next_of, on, put, symbol_on, with_props};
+use rows::{NO_PROPERTIES, Reading, Sort, merged, next_of, on, put, symbol_on, with_props};
 use steps::{Went, name, next, own, start_of, symbol};
 use threads::subcomponents;
 use words::kinds::Kind;
-
-// What has sections. Its number is what its row begins with.
-#[derive(Clone, Copy)]
-enum Sort {
-    Process = 1,
-    Type = 2,
-    Implementation = 3,
-}
 
 // Whether a section of a list begins with this word here.
 #[tactic(auto, unfolding(crate::specs::Sections::list_kind))]
@@ -36,7 +29,7 @@ fn begins_list(of: Sort, kind: Kind) -> bool
     match of {
         Sort::Type => kind == Kind::Features,
         Sort::Process => matches!(kind, Kind::Subcomponents | Kind::Connections),
-        Sort::Implementation => false,
+        _ => false,
     }
 }
 

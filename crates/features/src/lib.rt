@@ -9,12 +9,9 @@ ghost use Rattle.features.specs.Features.{direction_of, port_head, port, other_f
 
 use phrases::{direction, label, maybe_classifier, port_kind, word_and_rest};
 use properties::{Of, TIMING, maybe_block_in};
-use rows::{NO_PROPERTIES, Reading, next_of, on, put, symbol_on, with_props};
+use rows::{NO_PROPERTIES, Reading, Sort, next_of, on, put, symbol_on, with_props};
 use steps::{Went, is_name, next, second, start_of};
 use words::kinds::Kind;
-
-// What a port's row begins with.
-const A_PORT: usize = 4;
 
 // 1 in, 2 out, 3 in out
 fn direction_of(text: &[u8], went: Went) -> usize
@@ -49,7 +46,18 @@ fn port(text: &[u8], rows: &mut [usize], reading: Reading, owner: usize, named: 
     put(
         rows,
         whole,
-        [A_PORT, owner, named, way, props[TIMING], 0, 0, 0, 0, 0],
+        [
+            Sort::Port as usize,
+            owner,
+            named,
+            way,
+            props[TIMING],
+            0,
+            0,
+            0,
+            0,
+            0,
+        ],
     )
 }
 

@@ -16,7 +16,7 @@ pub use building::build;
 pub use dictionary::Dictionary;
 pub use held::Rows;
 use keys::Key;
-use rows::ROW;
+use rows::{ROW, Sort};
 
 // The roles of keys: what a row is declared as, a connection by its ends, and a connection by its queue. They are numbers and no enum: a
 // dictionary has its role as a const parameter.
@@ -25,17 +25,6 @@ pub const DECLARED: usize = 0;
 pub const CONNECTED: usize = 1;
 
 pub const QUEUED: usize = 2;
-
-// The sorts of rows whose keys differ from those of others, and the sorts of keys that no row is declared as.
-const PROCESS: usize = 1;
-
-const IMPLEMENTATION: usize = 3;
-
-const LINK: usize = 6;
-
-const CONNECTION: usize = 7;
-
-const QUEUE: usize = 8;
 
 // The row that an entry in memory means: its number counted from 1, or 0 for none.
 pub fn row_in(entry: u32) -> Option<usize>
@@ -48,16 +37,20 @@ pub fn row_in(entry: u32) -> Option<usize>
 fn own_name(sort: usize, own: usize) -> usize
     ensures { result ≡ own_name sort own }
 {
-    if sort == IMPLEMENTATION { own } else { 0 }
+    if sort == Sort::Implementation as usize {
+        own
+    } else {
+        0
+    }
 }
 
 // What a row is declared as.
 fn declared_key(sort: usize, within: usize, name: usize, own: usize) -> Key
     ensures { result ≡ declared_key sort within name own }
 {
-    if sort == PROCESS {
+    if sort == Sort::Process as usize {
         return Key {
-            sort: PROCESS,
+            sort: Sort::Process as usize,
             ..Key::NONE
         };
     }
@@ -88,14 +81,14 @@ pub fn key_at(rows: &[usize], role: usize, k: usize) -> Key
     if role == DECLARED {
         return declared_key(sort, within, column(rows, k, 2), column(rows, k, 4));
     }
-    if sort != LINK {
+    if sort != Sort::Link as usize {
         return Key::NONE;
     }
     let receiver = column(rows, k, 6);
     let port = column(rows, k, 7);
     if role == CONNECTED {
         return Key {
-            sort: CONNECTION,
+            sort: Sort::Connection as usize,
             within,
             first: column(rows, k, 4),
             second: receiver,
@@ -103,7 +96,7 @@ pub fn key_at(rows: &[usize], role: usize, k: usize) -> Key
         };
     }
     Key {
-        sort: QUEUE,
+        sort: Sort::Queue as usize,
         within,
         first: receiver,
         second: port,

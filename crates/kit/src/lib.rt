@@ -18,18 +18,10 @@ use findings::Table;
 use place::first_place;
 use plan::Plan;
 pub use prepared::Prepared;
+use rows::sort::{DEADLINE_COLUMN, PERIOD_COLUMN, PRIORITY_COLUMN};
 use sources::Sources;
 use std::array;
 use ways::Names;
-
-const CONNECTION: usize = 7;
-
-// The columns of a thread's figures.
-const PERIOD: usize = 5;
-
-const DEADLINE: usize = 6;
-
-const PRIORITY: usize = 9;
 
 // The number that a value says, a time in ticks or a priority; 0 where there is none.
 fn said_by(value: usize) -> u64
@@ -43,7 +35,11 @@ fn instead_of(c: usize) -> usize
     requires { c < row_words }
     ensures { (result ≡ instead_of c) × (result < row_words) }
 {
-    if c == DEADLINE { PERIOD } else { c }
+    if c == DEADLINE_COLUMN {
+        PERIOD_COLUMN
+    } else {
+        c
+    }
 }
 
 // A figure of thread k by its column.
@@ -91,9 +87,9 @@ pub fn make_table(prepared: &Prepared<'_>) -> Table
     Table {
         tasks: sources.threads.count,
         queues: sources.queues.count,
-        period: sources.figures(PERIOD),
-        deadline: sources.figures(DEADLINE),
-        priority: in_bytes(&sources.figures(PRIORITY)),
+        period: sources.figures(PERIOD_COLUMN),
+        deadline: sources.figures(DEADLINE_COLUMN),
+        priority: in_bytes(&sources.figures(PRIORITY_COLUMN)),
         receiver: sources.receivers(),
         sends: sources.senders(),
     }

@@ -5,11 +5,12 @@ ghost use Rattle.std.specs.Coded.{Coded-set};
 ghost use Rattle.ways.specs.Named.{text_of, all_rows};
 ghost use Rattle.chosen.specs.Chosen.{threads_of, queues_of, chosen};
 
-use crate::{CONNECTION, figure, place_of};
+use crate::{figure, place_of};
 use chosen::Chosen;
 use index::CONNECTED;
 use keys::Key;
 use plan::Plan;
+use rows::Sort;
 use std::array;
 use verdict::Joined;
 use ways::thread_named;
@@ -97,7 +98,7 @@ impl<'a> Sources<'a> {
     {
         let rows = &self.joined.names.declared.rows;
         let key = Key {
-            sort: CONNECTION,
+            sort: Sort::Connection as usize,
             within: rows.cell(q, 1),
             first: rows.cell(k, 2),
             second: rows.cell(q, 6),

@@ -8,12 +8,9 @@ ghost use Rattle.links.specs.Links.{EndsAt, timing_by, link, other_kind, connect
 
 use phrases::{arrow, dotted, link_kind, maybe_label, word_and_rest};
 use properties::{Of, TIMING, maybe_block_in};
-use rows::{NO_PROPERTIES, Reading, next_of, on, put, symbol_on, with_props};
+use rows::{NO_PROPERTIES, Reading, Sort, next_of, on, put, symbol_on, with_props};
 use steps::{Went, is_name, name, next, second, start_of, symbol};
 use words::kinds::Kind;
-
-// What a connection's row begins with.
-const A_LINK: usize = 6;
 
 // The two ends of a port connection: where the text goes on, where the names of its threads and ports stand, whether both have a port,
 // and whether its arrow says Delayed.
@@ -86,7 +83,7 @@ fn link(
         rows,
         whole,
         [
-            A_LINK,
+            Sort::Link as usize,
             process,
             named,
             start,

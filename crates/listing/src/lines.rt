@@ -20,7 +20,7 @@ fn bit_of(sends: bool, bit: u64) -> u64
     if sends { bit } else { 0 }
 }
 
-// The mask of a queue's senders: bit i for task i.
+// The mask of a queue's senders: bit i for task i. Document 01 keeps the square of senders flat, so the loop is over its rows.
 fn mask_of(sends: &[bool; Plan::CELLS], q: usize) -> u64
     requires { q < queue_limit }
     ensures { result ≡ mask_of (sender sends.now q) task_limit }
@@ -34,7 +34,8 @@ fn mask_of(sends: &[bool; Plan::CELLS], q: usize) -> u64
     mask
 }
 
-// The lines 01 for each thread, 02 for each queue, then 03, and how many bytes they have.
+// The lines 01 for each thread, 02 for each queue, then 03, and how many bytes they have: a slice of them would keep the memory lent, and
+// the clause on all of it could not be said.
 pub fn write_table(out: &mut [u8], plan: &Plan) -> usize
     requires { lines_room ≤ length out.old }
     ensures { (result ≡ length (table_lines plan.now)) × (result ≤ lines_room)

@@ -40,7 +40,8 @@ fn found(plan: &Plan, memory: &[u8], queue: usize, n: Number, window: WindowEnds
     Received::Gap(n, sender)
 }
 
-// Answers as a receive does. `before` is the state's tick, and `reading` its column of reading places.
+// Answers as a receive does. `before` is the state's tick, and `reading` its column of reading places. A refusal is one of the four kinds of
+// answer and goes back beside what was remembered, so it is no Err to pass on.
 fn look_on(
     tested: Tested,
     memory: &[u8],

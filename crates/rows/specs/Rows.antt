@@ -1,5 +1,6 @@
 -- What a text declares, in text order: a row of ten numbers for each. A name is the place where it stands, 0 where none stands.
 use Rattle.std.specs.Prelude.{◌+◌, ◌*◌, ◌∷◌}
+use Rattle.rows.specs.declared.sort.Sort.{Sort}
 use Rattle.common.specs.Words.{ℕ, List, [], cond, leb, length, get_or, sets}
 
 abbrev pub Row : Type 0
@@ -26,6 +27,17 @@ a_thread = 5
 
 abbrev pub a_link : ℕ
 a_link = 6
+
+-- the code's names for these and for what has keys alone
+abbrev pub begun_by : Sort → ℕ
+begun_by Sort.Process = a_process
+begun_by Sort.Type = a_type
+begun_by Sort.Implementation = an_implementation
+begun_by Sort.Port = a_port
+begun_by Sort.Thread = a_thread
+begun_by Sort.Link = a_link
+begun_by Sort.Connection = 7
+begun_by Sort.Queue = 8
 
 abbrev pub property : List ℕ → ℕ → ℕ
 property ps q = get_or ps q 0

@@ -12,6 +12,10 @@ ghost use Rattle.rows.specs.States.{state_of, does, begun, on_with, props_with, 
 use steps::{Fault, Went, next, second, symbol, worse};
 use words::kinds::Kind;
 
+pub mod sort; // sort.rt: what a row is of, and its columns
+
+pub use sort::Sort;
+
 // How many numbers a row has in memory.
 pub const ROW: usize = 10;
 
@@ -45,42 +49,23 @@ pub fn begun() -> Reading
 pub fn on(reading: Reading, went: Went) -> Reading
     ensures { result ≡ on_with reading went }
 {
-    let props = reading.props;
-    let fault = reading.fault;
-    Reading {
-        went,
-        props,
-        count: reading.count,
-        fault,
-    }
+    Reading { went, ..reading }
 }
 
 // The same, with other properties.
 pub fn with_props(reading: Reading, props: [usize; PROPERTIES]) -> Reading
     ensures { result ≡ props_with reading props }
 {
-    let went = reading.went;
-    let fault = reading.fault;
-    Reading {
-        went,
-        props,
-        count: reading.count,
-        fault,
-    }
+    Reading { props, ..reading }
 }
 
 // One fault more that was noted.
 pub fn noted(reading: Reading, fault: Option<Fault>) -> Reading
     ensures { result ≡ fault_with reading fault }
 {
-    let went = reading.went;
-    let props = reading.props;
-    let before = reading.fault;
     Reading {
-        went,
-        props,
-        count: reading.count,
-        fault: worse(before, fault),
+        fault: worse(reading.fault, fault),
+        ..reading
     }
 }
 
@@ -88,23 +73,20 @@ pub fn noted(reading: Reading, fault: Option<Fault>) -> Reading
 pub fn next_of(text: &[u8], reading: Reading) -> Kind
     ensures { result ≡ first_kind (lift text.now reading.went) }
 {
-    let went = reading.went;
-    next(text, went)
+    next(text, reading.went)
 }
 
 pub fn second_of(text: &[u8], reading: Reading) -> Kind
     ensures { result ≡ second_kind (lift text.now reading.went) }
 {
-    let went = reading.went;
-    second(text, went)
+    second(text, reading.went)
 }
 
 // The next token is of this kind.
 pub fn symbol_on(text: &[u8], reading: Reading, kind: Kind) -> Reading
     ensures { (m : List ℕ) → state_of text.now result m ≡ does (state_of text.now reading m) (quiet (the kind)) }
 {
-    let went = reading.went;
-    on(reading, symbol(text, went, kind))
+    on(reading, symbol(text, reading.went, kind))
 }
 
 // Each property from the first that has it.
@@ -132,9 +114,7 @@ fn keep(rows: &mut [usize], count: usize, row: [usize; ROW]) -> usize
         return count;
     }
     let at = ROW * count;
-    for k in 0..ROW {
-        rows[at + k] = row[k];
-    }
+    rows[at..at + ROW].copy_from_slice(&row);
     count + 1
 }
 
@@ -143,16 +123,11 @@ pub fn put(rows: &mut [usize], reading: Reading, numbers: [usize; ROW]) -> Readi
     ensures { (p : List ℕ) (row : List ℕ → Row) → row reading.props ≡ numbers →
         state_of p result rows.new ≡ does (state_of p reading rows.old) (put row) }
 {
-    let went = reading.went;
-    let Ok(_) = went else {
+    let Ok(_) = reading.went else {
         return reading;
     };
-    let props = reading.props;
-    let fault = reading.fault;
     Reading {
-        went,
-        props,
         count: keep(rows, reading.count, numbers),
-        fault,
+        ..reading
     }
 }

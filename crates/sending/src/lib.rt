@@ -1,5 +1,6 @@
 // Send: a task's message into its slot, at most one for each job, and the job recorded in the state's column. A call is lent the plan, and of
 // the state its tick and the one column that it changes, because a plan or a state by value would be copied for each line of the console.
+// The state as a whole, with the calls as its methods, is the crate `mailbox`, above this one.
 #![tactic(auto)]
 
 ghost use Rattle.std.specs.Prelude.{◌≡◌, ◌<◌, ◌≤◌};

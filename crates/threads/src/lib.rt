@@ -7,12 +7,9 @@ ghost use Rattle.threads.specs.Threads.{thread_of, thread, other_component, subc
 
 use phrases::{dotted, label, scopes, word_and_rest};
 use properties::{Of, maybe_block_in};
-use rows::{NO_PROPERTIES, Reading, next_of, on, put, symbol_on, with_props};
+use rows::{NO_PROPERTIES, Reading, Sort, next_of, on, put, symbol_on, with_props};
 use steps::{is_name, name, next, start_of, symbol};
 use words::kinds::Kind;
-
-// What a thread's row begins with.
-const A_THREAD: usize = 5;
 
 // classifier [ block ] ";" of the thread whose name stands at `named`, in the process that begins at `process`
 fn thread_of(
@@ -40,7 +37,7 @@ fn thread_of(
         rows,
         whole,
         [
-            A_THREAD,
+            Sort::Thread as usize,
             process,
             named,
             start_of(text, scoped),

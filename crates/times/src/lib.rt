@@ -25,7 +25,8 @@ pub struct Sum {
     pub whole: bool,
 }
 
-// What a form says: where the text goes on, the property's value, and the fault that is noted.
+// What a form says: where the text goes on, the property's value, and the fault that is noted. The value is the number of a row's column: 0
+// where there is none, 1 for one that has a fault, else 2 more than what it says.
 #[derive(Drop)]
 pub struct Formed {
     pub went: Went,

@@ -17,22 +17,12 @@ mod joined;
 use index::{CONNECTED, Dictionary, Rows};
 pub use joined::Joined;
 use keys::Key;
+use rows::Sort;
+use rows::sort::{OFFSET_COLUMN, PERIOD_COLUMN, PROTOCOL_COLUMN};
 use steps::{Fault, Rule, Why, worse};
 use ways::{Names, implementation_of, thread_named};
 
-// The sorts of rows that are judged, and what columns of theirs hold.
-const PROCESS: usize = 1;
-
-const THREAD: usize = 5;
-
-const LINK: usize = 6;
-
-const PERIOD: usize = 5;
-
-const PROTOCOL: usize = 7;
-
-const OFFSET: usize = 8;
-
+// What columns of the rows that are judged hold.
 const ONLY_IN: usize = 1;
 
 const ONLY_OUT: usize = 2;
@@ -85,9 +75,9 @@ fn thread(names: &Names<'_>, k: usize, fault: Option<Fault>) -> Option<Fault>
 {
     let rows = &names.declared.rows;
     let name = rows.cell(k, 2);
-    let period = names.property_of(k, PERIOD);
-    let protocol = names.property_of(k, PROTOCOL);
-    let offset = names.property_of(k, OFFSET);
+    let period = names.property_of(k, PERIOD_COLUMN);
+    let protocol = names.property_of(k, PROTOCOL_COLUMN);
+    let offset = names.property_of(k, OFFSET_COLUMN);
     let typed = note(
         fault,
         is_stray(names, k),
@@ -258,10 +248,10 @@ fn row(joined: &Joined<'_>, k: usize, fault: Option<Fault>) -> Option<Fault>
 {
     let once = again(&joined.names, k, fault);
     let sort = joined.names.declared.rows.cell(k, 0);
-    if sort == THREAD {
+    if sort == Sort::Thread as usize {
         return thread(&joined.names, k, once);
     }
-    if sort == LINK {
+    if sort == Sort::Link as usize {
         return link(joined, k, once);
     }
     once
@@ -272,7 +262,7 @@ fn process(names: &Names<'_>, fault: Option<Fault>) -> Option<Fault>
     ensures { result ≡ worst fault (process_faults (text_of names.now) (all_rows names.now)) }
 {
     let key = Key {
-        sort: PROCESS,
+        sort: Sort::Process as usize,
         ..Key::NONE
     };
     let first = names.declared.find(key);

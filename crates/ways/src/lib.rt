@@ -15,14 +15,8 @@ mod types;
 use index::{DECLARED, Dictionary, row_in};
 use keys::Key;
 pub use names::Names;
+use rows::Sort;
 pub use types::Types;
-
-// The sorts of what is looked for.
-const TYPE: usize = 2;
-
-const IMPLEMENTATION: usize = 3;
-
-const THREAD: usize = 5;
 
 // A row's number, counted from 1, and 0 for none: so it is kept in memory.
 fn number_in(row: Option<usize>) -> usize
@@ -41,7 +35,7 @@ fn type_named(declared: &Dictionary<'_, DECLARED>, name: usize) -> Option<usize>
         return None;
     }
     declared.find(Key {
-        sort: TYPE,
+        sort: Sort::Type as usize,
         first: name,
         ..Key::NONE
     })
@@ -68,7 +62,7 @@ pub fn thread_named(
     ensures within { IfSome result (λ j. j < declared.now.rows.count) }
 {
     declared.find(Key {
-        sort: THREAD,
+        sort: Sort::Thread as usize,
         within: process,
         first: name,
         ..Key::NONE
@@ -86,7 +80,7 @@ pub fn implementation_of(declared: &Dictionary<'_, DECLARED>, k: usize) -> Optio
         return None;
     }
     declared.find(Key {
-        sort: IMPLEMENTATION,
+        sort: Sort::Implementation as usize,
         first: declared.rows.cell(k, 3),
         second: own,
         ..Key::NONE

@@ -7,8 +7,7 @@ use crate::types::Types;
 use crate::{above, implementation_of};
 use index::{DECLARED, Dictionary};
 use keys::Key;
-
-const PORT: usize = 4;
+use rows::Sort;
 
 #[derive(Clone, Copy)]
 pub struct Names<'a> {
@@ -77,7 +76,7 @@ impl<'a> Names<'a> {
             (key a_port (cell (all_rows self.now) j 2) name 0 0)) }
     {
         self.declared.find(Key {
-            sort: PORT,
+            sort: Sort::Port as usize,
             within: self.declared.rows.cell(j, 2),
             first: name,
             ..Key::NONE

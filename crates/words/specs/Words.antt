@@ -23,18 +23,15 @@ rank (v ∷ vs) k other w = let next = rank vs (k + 1) other w in cond (same v w
 unfoldable pub kinds : List Kind
 kinds =
     Kind.Abstract ∷ Kind.Access ∷ Kind.Annex ∷ Kind.And ∷ Kind.Applies ∷ Kind.Binding ∷ Kind.Bus ∷ Kind.Calls ∷ Kind.Classifier ∷
-    Kind.Compute ∷ Kind.Connections ∷ Kind.Constant ∷ Kind.Data ∷ Kind.Delta ∷ Kind.Device ∷ Kind.End ∷ Kind.Event ∷ Kind.Extends ∷
-    Kind.False ∷ Kind.Feature ∷ Kind.Features ∷ Kind.Flow ∷ Kind.Flows ∷ Kind.Group ∷ Kind.Implementation ∷ Kind.In ∷ Kind.Inherit ∷
-    Kind.Initial ∷ Kind.Inverse ∷ Kind.Is ∷ Kind.List ∷ Kind.Memory ∷ Kind.Mode ∷ Kind.Modes ∷ Kind.None ∷ Kind.Not ∷ Kind.Of ∷
-    Kind.Or ∷
-    Kind.Out ∷ Kind.Package ∷ Kind.Parameter ∷ Kind.Path ∷ Kind.Port ∷ Kind.Private ∷ Kind.Process ∷ Kind.Processor ∷
-    Kind.Properties ∷
-    Kind.Property ∷ Kind.Prototypes ∷ Kind.Provides ∷ Kind.Public ∷ Kind.Range ∷ Kind.Record ∷ Kind.Reference ∷ Kind.Refined ∷
-    Kind.Renames ∷ Kind.Requires ∷ Kind.SelfWord ∷ Kind.Set ∷ Kind.Subcomponents ∷ Kind.Subprogram ∷ Kind.System ∷ Kind.Thread ∷
-    Kind.To ∷
-    Kind.True ∷ Kind.Type ∷ Kind.Units ∷ Kind.Virtual ∷ Kind.With ∷ Kind.Period ∷ Kind.Deadline ∷ Kind.DispatchProtocol ∷
-    Kind.DispatchOffset ∷ Kind.Priority ∷ Kind.Timing ∷ Kind.TimingProperties ∷ Kind.ThreadProperties ∷ Kind.CommunicationProperties ∷
-    Kind.Ms ∷ Kind.Sec ∷ Kind.Periodic ∷ Kind.Delayed ∷ []
+    Kind.Compute ∷ Kind.Connections ∷ Kind.Constant ∷ Kind.Data ∷ Kind.Delta ∷ Kind.Device ∷ Kind.End ∷ Kind.Event ∷
+    Kind.Extends ∷ Kind.False ∷ Kind.Feature ∷ Kind.Features ∷ Kind.Flow ∷ Kind.Flows ∷ Kind.Group ∷ Kind.Implementation ∷
+    Kind.In ∷ Kind.Inherit ∷ Kind.Initial ∷ Kind.Inverse ∷ Kind.Is ∷ Kind.List ∷ Kind.Memory ∷ Kind.Mode ∷ Kind.Modes ∷
+    Kind.None ∷ Kind.Not ∷ Kind.Of ∷ Kind.Or ∷ Kind.Out ∷ Kind.Package ∷ Kind.Parameter ∷ Kind.Path ∷ Kind.Port ∷ Kind.Private ∷
+    Kind.Process ∷ Kind.Processor ∷ Kind.Properties ∷ Kind.Property ∷ Kind.Prototypes ∷ Kind.Provides ∷ Kind.Public ∷ Kind.Range ∷
+    Kind.Record ∷ Kind.Reference ∷ Kind.Refined ∷ Kind.Renames ∷ Kind.Requires ∷ Kind.SelfWord ∷ Kind.Set ∷ Kind.Subcomponents ∷
+    Kind.Subprogram ∷ Kind.System ∷ Kind.Thread ∷ Kind.To ∷ Kind.True ∷ Kind.Type ∷ Kind.Units ∷ Kind.Virtual ∷ Kind.With ∷
+    Kind.Period ∷ Kind.Deadline ∷ Kind.DispatchProtocol ∷ Kind.DispatchOffset ∷ Kind.Priority ∷ Kind.Timing ∷ Kind.TimingProperties ∷
+    Kind.ThreadProperties ∷ Kind.CommunicationProperties ∷ Kind.Ms ∷ Kind.Sec ∷ Kind.Periodic ∷ Kind.Delayed ∷ []
 
 -- the kind of a name that does not stand in the list
 abbrev pub NAME : Kind

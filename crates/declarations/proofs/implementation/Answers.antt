@@ -1,5 +1,5 @@
 -- `declarations::implementation`.
-use Rattle.declarations.specs.Sections.{begun_by}
+use Rattle.rows.specs.Rows.{begun_by}
 use Rattle.std.specs.Prelude.{◌≡◌}
 use Rattle.common.specs.Words.{ap, ◌∙◌}
 use Rattle.words.specs.Kinds.{IMPLEMENTATION, DOT}

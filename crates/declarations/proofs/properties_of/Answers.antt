@@ -1,9 +1,9 @@
 -- `declarations::properties_of`.
-use Rattle.declarations.specs.Sections.{begun_by}
+use Rattle.rows.specs.Rows.{begun_by}
 use Rattle.std.specs.Prelude.{◌≡◌}
 use Rattle.common.specs.Words.{refl, arith, ap, ◌∙◌}
 use Rattle.rows.specs.Rows.{a_process}
-use Rattle.declarations.specs.declared.Sort.{Sort}
+use Rattle.rows.specs.declared.sort.Sort.{Sort}
 use Rattle.rows.specs.States.{State, state_of, does}
 use Rattle.rows.specs.Laws.{fresh, with_props, does_adding, stopped_stays}
 use Rattle.rows.specs.Said.{merged}
@@ -16,6 +16,11 @@ apart : (s : Sort) → (s ≡ Sort.Process → ⊥) → begun_by s ≡ a_process
 apart Sort.Process n e = n refl
 apart Sort.Type n e = omega (arith, e)
 apart Sort.Implementation n e = omega (arith, e)
+apart Sort.Port n e = omega (arith, e)
+apart Sort.Thread n e = omega (arith, e)
+apart Sort.Link n e = omega (arith, e)
+apart Sort.Connection n e = omega (arith, e)
+apart Sort.Queue n e = omega (arith, e)
 
 pub returns-in-Process : goal.returns-in-Process
 returns-in-Process c =

@@ -1,5 +1,5 @@
 -- `declarations::section`.
-use Rattle.declarations.specs.Sections.{begun_by}
+use Rattle.rows.specs.Rows.{begun_by}
 use Rattle.words.specs.Kinds.{PROPERTIES}
 use Rattle.words.specs.Same.{told_eq}
 use Rattle.common.specs.Words.{◌∙◌}

@@ -1,5 +1,5 @@
 -- `declarations::sections`: what is left to read says what the whole does.
-use Rattle.declarations.specs.Sections.{begun_by}
+use Rattle.rows.specs.Rows.{begun_by}
 use Rattle.common.specs.Words.{rules, refl, ap, ◌∙◌}
 use Rattle.rows.specs.States.{State, state_of}
 use Rattle.rows.specs.Laws.{repeat_on, repeat_off, repeat_less}

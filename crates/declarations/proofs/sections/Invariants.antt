@@ -1,5 +1,5 @@
 -- `declarations::sections`: what is left to read says what the whole does.
-use Rattle.declarations.specs.Sections.{begun_by}
+use Rattle.rows.specs.Rows.{begun_by}
 use Rattle.std.specs.Prelude.{◌≡◌}
 use Rattle.common.specs.Words.{length}
 use Rattle.steps.specs.Lifted.{lift, size}

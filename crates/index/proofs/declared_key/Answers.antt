@@ -3,9 +3,9 @@ use Rattle.common.specs.Tests.{tests}
 use Rattle.index.specs.Index.{declared_key}
 use Rattle.index.proofs.declared_key.Goals as goal
 
-pub returns-then-sort-eq-PROCESS : goal.returns-then-sort-eq-PROCESS
+pub returns-then-sort : goal.returns-then-sort
 unfolding declared_key
-returns-then-sort-eq-PROCESS c = search tests
+returns-then-sort c = search tests
 
 pub returns : goal.returns
 unfolding declared_key

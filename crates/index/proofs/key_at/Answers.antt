@@ -15,9 +15,9 @@ returns-then-role-eq-DECLARED c =
       k.column-sort.ensures,
     ) (search tests)
 
-pub returns-then-sort-ne-LINK : goal.returns-then-sort-ne-LINK
+pub returns-then-sort : goal.returns-then-sort
 unfolding key_by
-returns-then-sort-ne-LINK c = rw (← c.column-sort.ensures) (search tests)
+returns-then-sort c = rw (← c.column-sort.ensures) (search tests)
 
 pub returns-then-role-eq-CONNECTED : goal.returns-then-role-eq-CONNECTED
 unfolding key_by

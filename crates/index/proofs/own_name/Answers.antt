@@ -2,8 +2,8 @@
 use Rattle.common.specs.Tests.{tests}
 use Rattle.index.proofs.own_name.Goals as goal
 
-pub returns-then-sort-eq-IMPLEMENTATION : goal.returns-then-sort-eq-IMPLEMENTATION
-returns-then-sort-eq-IMPLEMENTATION c = search tests
+pub returns-then-sort : goal.returns-then-sort
+returns-then-sort c = search tests
 
-pub returns-else-sort-eq-IMPLEMENTATION : goal.returns-else-sort-eq-IMPLEMENTATION
-returns-else-sort-eq-IMPLEMENTATION c = search tests
+pub returns-else-sort : goal.returns-else-sort
+returns-else-sort c = search tests

@@ -5,6 +5,6 @@ use Rattle.phrases.proofs.annex.Goals as goal
 
 pub returns : goal.returns
 returns c =
-    let k = c in let a = k.args in
-    rw (c.symbol-3.ensures, k.symbol-2.ensures, k.name-named.ensures, k.symbol.ensures)
+    let a = c.args in
+    rw (c.symbol-3.ensures, c.symbol-2.ensures, c.name-named.ensures, c.symbol.ensures)
     (annex_then (lift a.text.now a.went))

@@ -7,10 +7,10 @@ use Rattle.phrases.proofs.arrow.Goals as goal
 
 pub returns-then-eq : goal.returns-then-eq
 returns-then-eq c =
-    let n = c in let a = n.args in
-    rw c.symbol.ensures (arrow_delaying (lift a.text.now a.went) (told_eq DELAYING n.next.ensures c.if-eq.ensures))
+    let a = c.args in
+    rw c.symbol.ensures (arrow_delaying (lift a.text.now a.went) (told_eq DELAYING c.next.ensures c.if-eq.ensures))
 
 pub returns : goal.returns
 returns c =
-    let n = c in let a = n.args in
-    rw c.symbol-2.ensures (arrow_plain (lift a.text.now a.went) (told_eq DELAYING n.next.ensures c.if-eq.ensures))
+    let a = c.args in
+    rw c.symbol-2.ensures (arrow_plain (lift a.text.now a.went) (told_eq DELAYING c.next.ensures c.if-eq.ensures))

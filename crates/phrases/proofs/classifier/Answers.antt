@@ -5,5 +5,5 @@ use Rattle.phrases.proofs.classifier.Goals as goal
 
 pub returns : goal.returns
 returns c =
-    let k = c in let a = k.args in
-    rw (c.dotted.ensures, k.name.ensures, k.scopes.ensures) (classifier_then (lift a.text.now a.went))
+    let a = c.args in
+    rw (c.dotted.ensures, c.name.ensures, c.scopes.ensures) (classifier_then (lift a.text.now a.went))

@@ -7,11 +7,11 @@ use Rattle.phrases.proofs.direction.Goals as goal
 
 pub returns-then-eq : goal.returns-then-eq
 returns-then-eq c =
-    let n = c in let a = n.args in
+    let a = c.args in
     rw (c.maybe.ensures, c.symbol.ensures)
-    (direction_in (lift a.text.now a.went) (told_eq IN n.next.ensures c.if-eq.ensures))
+    (direction_in (lift a.text.now a.went) (told_eq IN c.next.ensures c.if-eq.ensures))
 
 pub returns : goal.returns
 returns c =
-    let n = c in let a = n.args in
-    rw c.symbol-2.ensures (direction_out (lift a.text.now a.went) (told_eq IN n.next.ensures c.if-eq.ensures))
+    let a = c.args in
+    rw c.symbol-2.ensures (direction_out (lift a.text.now a.went) (told_eq IN c.next.ensures c.if-eq.ensures))

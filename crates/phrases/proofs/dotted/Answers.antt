@@ -7,11 +7,11 @@ use Rattle.phrases.proofs.dotted.Goals as goal
 
 pub returns-then-eq : goal.returns-then-eq
 returns-then-eq c =
-    let n = c in let a = n.args in
+    let a = c.args in
     rw (c.name.ensures, c.symbol.ensures)
-    (dotted_on (lift a.text.now a.went) (told_eq DOT n.next.ensures c.if-eq.ensures))
+    (dotted_on (lift a.text.now a.went) (told_eq DOT c.next.ensures c.if-eq.ensures))
 
 pub returns : goal.returns
 returns c =
-    let n = c in let a = n.args in
-    dotted_off (lift a.text.now a.went) (told_eq DOT n.next.ensures c.if-eq.ensures)
+    let a = c.args in
+    dotted_off (lift a.text.now a.went) (told_eq DOT c.next.ensures c.if-eq.ensures)

@@ -7,10 +7,10 @@ use Rattle.phrases.proofs.link_kind.Goals as goal
 
 pub returns-then-eq : goal.returns-then-eq
 returns-then-eq c =
-    let n = c in let a = n.args in
-    rw c.symbol.ensures (link_port (lift a.text.now a.went) (told_eq PORT n.next.ensures c.if-eq.ensures))
+    let a = c.args in
+    rw c.symbol.ensures (link_port (lift a.text.now a.went) (told_eq PORT c.next.ensures c.if-eq.ensures))
 
 pub returns : goal.returns
 returns c =
-    let n = c in let a = n.args in
-    rw c.port_kind.ensures (link_other (lift a.text.now a.went) (told_eq PORT n.next.ensures c.if-eq.ensures))
+    let a = c.args in
+    rw c.port_kind.ensures (link_other (lift a.text.now a.went) (told_eq PORT c.next.ensures c.if-eq.ensures))

@@ -8,10 +8,10 @@ use Rattle.phrases.proofs.maybe_block.Goals as goal
 
 pub returns-then-eq : goal.returns-then-eq
 returns-then-eq c =
-    let n = c in let a = n.args in
-    rw c.block.ensures (maybe_on OPEN_BRACE block (lift a.text.now a.went) (told_eq OPEN_BRACE n.next.ensures c.if-eq.ensures))
+    let a = c.args in
+    rw c.block.ensures (maybe_on OPEN_BRACE block (lift a.text.now a.went) (told_eq OPEN_BRACE c.next.ensures c.if-eq.ensures))
 
 pub returns : goal.returns
 returns c =
-    let n = c in let a = n.args in
-    maybe_off OPEN_BRACE block (lift a.text.now a.went) (told_eq OPEN_BRACE n.next.ensures c.if-eq.ensures)
+    let a = c.args in
+    maybe_off OPEN_BRACE block (lift a.text.now a.went) (told_eq OPEN_BRACE c.next.ensures c.if-eq.ensures)

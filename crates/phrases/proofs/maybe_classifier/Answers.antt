@@ -22,12 +22,12 @@ classifier-requires c = search rules
 pub returns-then-is_name : goal.returns-then-is_name
 unfolding maybe_classifier
 returns-then-is_name c =
-    let k = c in let a = k.args in let s = lift a.text.now a.went in
+    let a = c.args in let s = lift a.text.now a.went in
     rw c.classifier.ensures (optional_on named classifier s (kind_on is_name s refl
-    (rw (← k.next.ensures, ← k.is_name.ensures) c.if-is_name.true)))
+    (rw (← c.next.ensures, ← c.is_name.ensures) c.if-is_name.true)))
 
 pub returns : goal.returns
 unfolding maybe_classifier
 returns c =
-    let k = c in let a = k.args in let s = lift a.text.now a.went in
-    optional_off named classifier s (kind_off is_name s (rw (← k.next.ensures, ← k.is_name.ensures) c.if-is_name.false))
+    let a = c.args in let s = lift a.text.now a.went in
+    optional_off named classifier s (kind_off is_name s (rw (← c.next.ensures, ← c.is_name.ensures) c.if-is_name.false))

@@ -12,19 +12,19 @@ loop-w-init c = refl
 
 pub loop-w-smaller : goal.loop-w-smaller
 loop-w-smaller c =
-    let k = c in let l = k in let s = lift l.args.text.now l.loop-w.w in
+    let s = lift c.args.text.now c.loop-w.w in
     rw (c.name-w-in-loop-w.ensures, c.any.ensures, then_then s any name)
-    (many_less _ joint joint_advances s (join_on s (rw (← k.next.ensures, ← k.joins.ensures) c.loop-w-test.true)))
+    (many_less _ joint joint_advances s (join_on s (rw (← c.next.ensures, ← c.joins.ensures) c.loop-w-test.true)))
 
 pub loop-w-preserved : goal.loop-w-preserved
 loop-w-preserved c =
-    let k = c in let l = k in let s = lift l.args.text.now l.loop-w.w in
+    let s = lift c.args.text.now c.loop-w.w in
     rw (c.name-w-in-loop-w.ensures, c.any.ensures, then_then s any name)
-    (many_on _ joint joint_advances s (join_on s (rw (← k.next.ensures, ← k.joins.ensures) c.loop-w-test.true))
-    ∙ l.loop-w.invariant)
+    (many_on _ joint joint_advances s (join_on s (rw (← c.next.ensures, ← c.joins.ensures) c.loop-w-test.true))
+    ∙ c.loop-w.invariant)
 
 pub returns : goal.returns
 returns c =
-    let k = c in let l = k in let a = l.args in let s = lift a.text.now l.loop-w.w in
-    many_off _ joint joint_advances s (kind_off join_kind s (rw (← k.next.ensures, ← k.joins.ensures) c.loop-w-test.false))
-    ∙ l.loop-w.invariant ∙ rw l.name-w.ensures (path_then (lift a.text.now a.went))
+    let a = c.args in let s = lift a.text.now c.loop-w.w in
+    many_off _ joint joint_advances s (kind_off join_kind s (rw (← c.next.ensures, ← c.joins.ensures) c.loop-w-test.false))
+    ∙ c.loop-w.invariant ∙ rw c.name-w.ensures (path_then (lift a.text.now a.went))

@@ -14,20 +14,20 @@ loop-w-init c = refl
 
 pub loop-w-smaller : goal.loop-w-smaller
 loop-w-smaller c =
-    let k = c in let l = k in let s = lift l.args.text.now l.loop-w.w in
+    let s = lift c.args.text.now c.loop-w.w in
     rw (c.path-w-in-loop-w.ensures, c.symbol.ensures, then_then s (the COMMA) path)
-    (many_less (is COMMA) another another_advances s (is_on COMMA s refl (told_eq COMMA k.next.ensures k.loop-w-test.ensures)))
+    (many_less (is COMMA) another another_advances s (is_on COMMA s refl (told_eq COMMA c.next.ensures c.loop-w-test.ensures)))
 
 pub loop-w-preserved : goal.loop-w-preserved
 loop-w-preserved c =
-    let k = c in let l = k in let s = lift l.args.text.now l.loop-w.w in
+    let s = lift c.args.text.now c.loop-w.w in
     rw (c.path-w-in-loop-w.ensures, c.symbol.ensures, then_then s (the COMMA) path)
-    (many_on (is COMMA) another another_advances s (is_on COMMA s refl (told_eq COMMA k.next.ensures k.loop-w-test.ensures))
-    ∙ l.loop-w.invariant)
+    (many_on (is COMMA) another another_advances s (is_on COMMA s refl (told_eq COMMA c.next.ensures c.loop-w-test.ensures))
+    ∙ c.loop-w.invariant)
 
 pub returns : goal.returns
 returns c =
-    let k = c in let l = k in let a = l.args in let s = lift a.text.now l.loop-w.w in
-    let h = is_off COMMA s (told_eq COMMA k.next.ensures k.loop-w-test.ensures) in
-    rw (c.symbol-2.ensures, many_off (is COMMA) another another_advances s h ∙ l.loop-w.invariant, l.path-w.ensures)
+    let a = c.args in let s = lift a.text.now c.loop-w.w in
+    let h = is_off COMMA s (told_eq COMMA c.next.ensures c.loop-w-test.ensures) in
+    rw (c.symbol-2.ensures, many_off (is COMMA) another another_advances s h ∙ c.loop-w.invariant, c.path-w.ensures)
     (paths_then (lift a.text.now a.went))

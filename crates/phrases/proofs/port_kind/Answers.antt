@@ -7,12 +7,12 @@ use Rattle.phrases.proofs.port_kind.Goals as goal
 
 pub returns-then-eq : goal.returns-then-eq
 returns-then-eq c =
-    let n = c in let a = n.args in
+    let a = c.args in
     rw (c.symbol-then-eq.ensures, c.symbol.ensures)
-    (port_data (lift a.text.now a.went) (told_eq DATA n.next.ensures c.if-eq.ensures))
+    (port_data (lift a.text.now a.went) (told_eq DATA c.next.ensures c.if-eq.ensures))
 
 pub returns : goal.returns
 returns c =
-    let k = c in let n = k in let a = n.args in
-    rw (c.symbol-3.ensures, k.maybe.ensures, k.symbol-2.ensures)
-    (port_event (lift a.text.now a.went) (told_eq DATA n.next.ensures k.if-eq.ensures))
+    let a = c.args in
+    rw (c.symbol-3.ensures, c.maybe.ensures, c.symbol-2.ensures)
+    (port_event (lift a.text.now a.went) (told_eq DATA c.next.ensures c.if-eq.ensures))

@@ -14,18 +14,18 @@ loop-w-init c = refl
 
 pub loop-w-smaller : goal.loop-w-smaller
 loop-w-smaller c =
-    let k = c in let l = k in let s = lift l.args.text.now l.loop-w.w in
+    let s = lift c.args.text.now c.loop-w.w in
     rw (c.symbol-w.ensures, c.name.ensures, then_then s name (the SCOPE))
-    (many_less begins_scope scope scope_advances s (scope_on s (told_eq SCOPE k.second.ensures k.loop-w-test.ensures)))
+    (many_less begins_scope scope scope_advances s (scope_on s (told_eq SCOPE c.second.ensures c.loop-w-test.ensures)))
 
 pub loop-w-preserved : goal.loop-w-preserved
 loop-w-preserved c =
-    let k = c in let l = k in let s = lift l.args.text.now l.loop-w.w in
+    let s = lift c.args.text.now c.loop-w.w in
     rw (c.symbol-w.ensures, c.name.ensures, then_then s name (the SCOPE))
-    (many_on begins_scope scope scope_advances s (scope_on s (told_eq SCOPE k.second.ensures k.loop-w-test.ensures)) ∙ l.loop-w.invariant)
+    (many_on begins_scope scope scope_advances s (scope_on s (told_eq SCOPE c.second.ensures c.loop-w-test.ensures)) ∙ c.loop-w.invariant)
 
 pub returns : goal.returns
 unfolding scopes
 returns c =
-    let l = c in let s = lift l.args.text.now l.loop-w.w in
-    many_off begins_scope scope scope_advances s (scope_off s (told_eq SCOPE c.second.ensures c.loop-w-test.ensures)) ∙ l.loop-w.invariant
+    let s = lift c.args.text.now c.loop-w.w in
+    many_off begins_scope scope scope_advances s (scope_off s (told_eq SCOPE c.second.ensures c.loop-w-test.ensures)) ∙ c.loop-w.invariant

@@ -12,19 +12,19 @@ loop-w-init c = refl
 
 pub loop-w-smaller : goal.loop-w-smaller
 loop-w-smaller c =
-    let k = c in let l = k in let s = lift l.args.text.now l.loop-w.w in
+    let s = lift c.args.text.now c.loop-w.w in
     rw c.any-w-in-loop-w.ensures
-    (many_less _ any skip_advances s (skip_on s (rw (← k.next.ensures, ← k.in_section.ensures) c.loop-w-test.true)))
+    (many_less _ any skip_advances s (skip_on s (rw (← c.next.ensures, ← c.in_section.ensures) c.loop-w-test.true)))
 
 pub loop-w-preserved : goal.loop-w-preserved
 loop-w-preserved c =
-    let k = c in let l = k in let s = lift l.args.text.now l.loop-w.w in
+    let s = lift c.args.text.now c.loop-w.w in
     rw c.any-w-in-loop-w.ensures
-    (many_on _ any skip_advances s (skip_on s (rw (← k.next.ensures, ← k.in_section.ensures)
-    c.loop-w-test.true)) ∙ l.loop-w.invariant)
+    (many_on _ any skip_advances s (skip_on s (rw (← c.next.ensures, ← c.in_section.ensures)
+    c.loop-w-test.true)) ∙ c.loop-w.invariant)
 
 pub returns : goal.returns
 returns c =
-    let k = c in let l = k in let a = l.args in let s = lift a.text.now l.loop-w.w in
-    many_off _ any skip_advances s (kind_off skip_kind s (rw (← k.next.ensures, ← k.in_section.ensures) c.loop-w-test.false))
-    ∙ l.loop-w.invariant ∙ rw l.any-w.ensures (skipped_then (lift a.text.now a.went))
+    let a = c.args in let s = lift a.text.now c.loop-w.w in
+    many_off _ any skip_advances s (kind_off skip_kind s (rw (← c.next.ensures, ← c.in_section.ensures) c.loop-w-test.false))
+    ∙ c.loop-w.invariant ∙ rw c.any-w.ensures (skipped_then (lift a.text.now a.went))

@@ -28,24 +28,24 @@ association_in-r-requires c = search rules
 pub loop-of-smaller : goal.loop-of-smaller
 unfolding associations_in
 loop-of-smaller c =
-    let k = c in let l = k in let a = l.args in let s = state_of a.text.now l.loop-of.r [] in
+    let a = c.args in let s = state_of a.text.now c.loop-of.r [] in
     rw (ap (λ (x : State). x.went) (c.association_in-r.ensures []))
     (repeat_less named (association_in a.of) (advances_on named (association_in a.of) (association_in_moves a.of)) s
-    (kind_on is_name s.went refl (rw (← k.next_of.ensures, ← k.is_name.ensures) c.loop-of-test.true)))
+    (kind_on is_name s.went refl (rw (← c.next_of.ensures, ← c.is_name.ensures) c.loop-of-test.true)))
 
 pub loop-of-preserved : goal.loop-of-preserved
 unfolding associations_in
 loop-of-preserved c =
-    let k = c in let l = k in let a = l.args in
-    λ m. let s = state_of a.text.now l.loop-of.r m in
+    let a = c.args in
+    λ m. let s = state_of a.text.now c.loop-of.r m in
     rw (c.association_in-r.ensures m)
     (repeat_on named (association_in a.of) (advances_on named (association_in a.of) (association_in_moves a.of)) s
-    (kind_on is_name s.went refl (rw (← k.next_of.ensures, ← k.is_name.ensures) c.loop-of-test.true)) ∙ l.loop-of.invariant m)
+    (kind_on is_name s.went refl (rw (← c.next_of.ensures, ← c.is_name.ensures) c.loop-of-test.true)) ∙ c.loop-of.invariant m)
 
 pub returns : goal.returns
 unfolding associations_in
 returns c =
-    let k = c in let l = k in let a = l.args in
-    λ m. let s = state_of a.text.now l.loop-of.r m in
+    let a = c.args in
+    λ m. let s = state_of a.text.now c.loop-of.r m in
     repeat_off named (association_in a.of) (advances_on named (association_in a.of) (association_in_moves a.of)) s
-    (kind_off is_name s.went (rw (← k.next_of.ensures, ← k.is_name.ensures) c.loop-of-test.false)) ∙ l.loop-of.invariant m
+    (kind_off is_name s.went (rw (← c.next_of.ensures, ← c.is_name.ensures) c.loop-of-test.false)) ∙ c.loop-of.invariant m

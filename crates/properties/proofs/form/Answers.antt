@@ -52,8 +52,6 @@ rightness-requires c = search rules
 pub returns : goal.returns
 unfolding worst
 returns c =
-    let k = c in
-    let i = k in
-    let a = i.args in
-    rw (form_name a.property (lift a.text.now a.went) (search rules) i.if-property-eq-OFFSET.false k.if-property-eq-PRIORITY.false)
-    (record { went = k.name.ensures; value = c.rightness.ensures ∙ ap (right_by a.property) c.next.ensures; fault = refl })
+    let a = c.args in
+    rw (form_name a.property (lift a.text.now a.went) (search rules) c.if-property-eq-OFFSET.false c.if-property-eq-PRIORITY.false)
+    (record { went = c.name.ensures; value = c.rightness.ensures ∙ ap (right_by a.property) c.next.ensures; fault = refl })

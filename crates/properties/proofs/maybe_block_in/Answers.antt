@@ -37,8 +37,8 @@ symbol_on-requires-2 c = search rules
 pub returns : goal.returns
 unfolding maybe_block_in
 returns c =
-    let k = c in let a = k.args in
+    let a = c.args in
     λ m. let s = state_of a.text.now a.reading m in
     rw (c.symbol_on-2.ensures m, c.associations_in-inner.ensures m, c.symbol_on.ensures m)
     (block_does a.of s ∙ optionally_on (is OPEN_BRACE) (block_in a.of) s
-    (is_on OPEN_BRACE s.went refl (told_ne OPEN_BRACE k.next_of.ensures k.if-ne.ensures)))
+    (is_on OPEN_BRACE s.went refl (told_ne OPEN_BRACE c.next_of.ensures c.if-ne.ensures)))

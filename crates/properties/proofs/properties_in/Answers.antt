@@ -31,11 +31,11 @@ on-requires c = search rules
 pub returns-then-eq : goal.returns-then-eq
 unfolding properties_in
 returns-then-eq c =
-    let k = c in let j = k in let a = j.args in
-    λ m. let s = state_of a.text.now a.reading m in let t = state_of a.text.now j.symbol_on-inner.result m in
+    let a = c.args in
+    λ m. let s = state_of a.text.now a.reading m in let t = state_of a.text.now c.symbol_on-inner.result m in
     rw (c.on.ensures, c.nothing.ensures)
-    (does_quiet t nothing ∙ none_on (associations_in a.of) t (told_eq NONE k.next_of.ensures k.if-eq.ensures)
-    ∙ ap (λ (x : State). does x (none_or (associations_in a.of))) (j.symbol_on-inner.ensures m)
+    (does_quiet t nothing ∙ none_on (associations_in a.of) t (told_eq NONE c.next_of.ensures c.if-eq.ensures)
+    ∙ ap (λ (x : State). does x (none_or (associations_in a.of))) (c.symbol_on-inner.ensures m)
     ∙ does_then s (quiet (the PROPERTIES)) (none_or (associations_in a.of)))
 
 pub associations_in-requires : goal.associations_in-requires
@@ -45,8 +45,8 @@ associations_in-requires c = search rules
 pub returns : goal.returns
 unfolding properties_in
 returns c =
-    let k = c in let j = k in let a = j.args in
-    λ m. let s = state_of a.text.now a.reading m in let t = state_of a.text.now j.symbol_on-inner.result m in
-    c.associations_in.ensures m ∙ none_off (associations_in a.of) t (told_eq NONE k.next_of.ensures k.if-eq.ensures)
-    ∙ ap (λ (x : State). does x (none_or (associations_in a.of))) (j.symbol_on-inner.ensures m)
+    let a = c.args in
+    λ m. let s = state_of a.text.now a.reading m in let t = state_of a.text.now c.symbol_on-inner.result m in
+    c.associations_in.ensures m ∙ none_off (associations_in a.of) t (told_eq NONE c.next_of.ensures c.if-eq.ensures)
+    ∙ ap (λ (x : State). does x (none_or (associations_in a.of))) (c.symbol_on-inner.ensures m)
     ∙ does_then s (quiet (the PROPERTIES)) (none_or (associations_in a.of))

@@ -11,8 +11,8 @@ use Rattle.properties.proofs.property_at.Goals as goal
 
 pub returns-then-ne : goal.returns-then-ne
 returns-then-ne c =
-    let n = c in let a = n.args in
-    rw (c.named_by.ensures, n.next-kind.ensures) (property_plain (lift a.text.now a.went)
+    let a = c.args in
+    rw (c.named_by.ensures, c.next-kind.ensures) (property_plain (lift a.text.now a.went)
     (told_ne SCOPE c.second.ensures c.if-ne.ensures))
 
 pub returns-then-eq : goal.returns-then-eq

@@ -15,17 +15,13 @@ returns-then-ne c =
 
 pub returns-then-property-lt-TIMING : goal.returns-then-property-lt-TIMING
 returns-then-property-lt-TIMING c =
-    let b = c in
-    let k = b in
-    let a = k.args in
-    λ m. rw (c.noted.ensures, b.on-skipped.ensures, b.association.ensures, c.start_of.ensures)
+    let a = c.args in
+    λ m. rw (c.noted.ensures, c.on-skipped.ensures, c.association.ensures, c.start_of.ensures)
     (skipped_noted a.of (state_of a.text.now a.reading m) (differs_false the_type tt _ of_process (sym c.if-ne.ensures))
-    (rw (← k.requires) c.if-property-lt-TIMING.true))
+    (rw (← c.requires) c.if-property-lt-TIMING.true))
 
 pub returns : goal.returns
 returns c =
-    let b = c in
-    let k = b in
-    let a = k.args in
-    λ m. rw (b.on-skipped.ensures, b.association.ensures) (skipped_other a.of
-    (state_of a.text.now a.reading m) (rw (← k.requires) c.if-property-lt-TIMING.false))
+    let a = c.args in
+    λ m. rw (c.on-skipped.ensures, c.association.ensures) (skipped_other a.of
+    (state_of a.text.now a.reading m) (rw (← c.requires) c.if-property-lt-TIMING.false))

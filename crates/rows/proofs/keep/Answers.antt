@@ -1,39 +1,27 @@
--- `rows::keep`: the numbers so far stand in their places.
-use Rattle.std.specs.Prelude.{◌≡◌, ◌+◌, ◌*◌}
-use Rattle.common.specs.Words.{rules, refl, length, take, length-set, take_all, le-leb, lt-leb}
-use Rattle.common.specs.Stores.{sets_more}
+-- `rows::keep`: the numbers stand in their places.
+use Rattle.std.specs.Prelude.{◌≡◌, ◌+◌, ◌-◌, ◌*◌, ◌≤◌, ◌++◌}
+use borrow.Rule.Slice.PartMut.{put_mid}
+use Rattle.common.specs.Words.{ap, ◌∙◌, append_assoc, drop-drop, ℕ, List, arith, length, take, drop, sets, sets-eq, sym, le-leb, lt-leb}
 use Rattle.rows.specs.Rows.{with_row}
 use Rattle.rows.proofs.keep.Goals as goal
 
+-- numbers that are written over as many from an index on
+placed : (l vs : List ℕ) (i k : ℕ) → k ≡ length vs → i + length vs ≤ length l → put_mid i k l vs ≡ sets l i vs
+placed l vs i k e h =
+    rw e (ap (λ (xs : List ℕ). take i l ++ (vs ++ xs)) (drop-drop (length vs) i l)
+    ∙ sym (append_assoc (take i l) vs (drop (i + length vs) l)) ∙ sym (sets-eq vs l i h))
+
 pub returns-then-rows-count : goal.returns-then-rows-count
 unfolding with_row
-returns-then-rows-count c = let a = c.args in rw (lt-leb (10 * a.count + 10) (length a.rows.now) (search rules))
-
-pub loop-k-init : goal.loop-k-init
-unfolding with_row
-loop-k-init c = (search rules, refl, refl, search rules)
-
-pub loop-k-preserved : goal.loop-k-preserved
-unfolding with_row
-loop-k-preserved c =
-    let l = c in
-    let a = l.args in (
-      search rules,
-      simp length-set l.loop-k.invariant.1,
-      rw l.loop-k.invariant.2 (sets_more a.rows.now a.row (10 * a.count) l.loop-k.k (search rules)),
-      refl,
-    )
-
-pub shape_of-rows : goal.shape_of-rows
-unfolding with_row
-shape_of-rows c =
-    c.loop-k.invariant.1
+returns-then-rows-count c = let a = c.args in rw (lt-leb (10 * a.count + 10) (length a.rows.now) (omega arith))
 
 pub returns : goal.returns
 unfolding with_row
 returns c =
-    let l = c in
-    let a = l.args in
-    let e : l.loop-k.k ≡ 10 = search rules in
-    let w : take 10 a.row ≡ a.row = take_all 10 a.row (search rules) in
-    rw (le-leb (10 * a.count + 10) (length a.rows.now) (search rules), l.loop-k.invariant.2, e, w)
+    let a = c.args in
+    let at = 10 * a.count in
+    rw (
+      c.copy_from_slice.ensures.after,
+      placed a.rows.now a.row at (at + 10 - at) (omega arith) (omega arith),
+      le-leb (at + 10) (length a.rows.now) (omega arith),
+    )

@@ -13,13 +13,13 @@ loop-q-init c = (search rules, search rules, table_none _ [])
 pub loop-q-preserved : goal.loop-q-preserved
 unfolding merged
 loop-q-preserved c =
-    let l = c in let a = l.args in (
+    let a = c.args in (
       search rules,
       search rules,
       rw c.first_of.ensures (table_more (λ (i : ℕ). first_of (get_or a.a i 0) (get_or a.b i 0))
-          l.loop-q.out l.loop-q.q (search rules) l.loop-q.invariant.2),
+          c.loop-q.out c.loop-q.q (search rules) c.loop-q.invariant.2),
     )
 
 pub returns : goal.returns
 unfolding merged
-returns c = let l = c in let e : l.loop-q.q ≡ 6 = search rules in table_all _ l.loop-q.out 6 l.loop-q.invariant.1 (rw e at l.loop-q.invariant.2)
+returns c = let e : c.loop-q.q ≡ 6 = search rules in table_all _ c.loop-q.out 6 c.loop-q.invariant.1 (rw e at c.loop-q.invariant.2)

@@ -8,7 +8,5 @@ returns-in_default c = let a = c.args in λ p row e. stopped_stays p a.reading a
 
 pub returns : goal.returns
 returns c =
-    let k = c in
-    let j = k in
-    let a = j.args in
-    λ p row e. put_goes p a.reading a.rows.now _ k.keep.result _ row j.in-Ok.is (rw e k.keep.ensures)
+    let a = c.args in
+    λ p row e. put_goes p a.reading a.rows.now _ c.keep.result _ row c.in-Ok.is (rw e c.keep.ensures)

@@ -10,31 +10,29 @@ use Rattle.texts.proofs.chosen.Goals as goal
 
 pub returns-then-eq : goal.returns-then-eq
 returns-then-eq c =
-    let u = c in let i = u in let k = i in let a = k.args in
-    u.thread_by.ensures ∙ chosen_thread (state_of a.text.now a.reading a.rows.now) (told_eq THREAD k.next_of-kind.ensures i.if-eq.ensures)
+    let a = c.args in
+    c.thread_by.ensures ∙ chosen_thread (state_of a.text.now a.reading a.rows.now) (told_eq THREAD c.next_of-kind.ensures c.if-eq.ensures)
 
 pub returns-then-eq-2 : goal.returns-then-eq-2
 returns-then-eq-2 c =
-    let j = c in let i = j in let k = i in let a = k.args in
+    let a = c.args in
     let s = state_of a.text.now a.reading a.rows.now in
     rw (c.on.ensures, c.annex.ensures)
-    (does_quiet s annex ∙ chosen_annex s (told_eq THREAD k.next_of-kind.ensures i.if-eq.ensures)
-    (told_eq ANNEX k.next_of-kind.ensures j.if-eq-2.ensures))
+    (does_quiet s annex ∙ chosen_annex s (told_eq THREAD c.next_of-kind.ensures c.if-eq.ensures)
+    (told_eq ANNEX c.next_of-kind.ensures c.if-eq-2.ensures))
 
 pub returns-then-is_process : goal.returns-then-is_process
 returns-then-is_process c =
-    let u = c in let l = u in let p = l in
-    let j = p in let i = j in let k = i in
-    let a = k.args in
-    u.process_implementation.ensures
+    let a = c.args in
+    c.process_implementation.ensures
     ∙ chosen_process (state_of a.text.now a.reading a.rows.now)
-    (told_eq THREAD k.next_of-kind.ensures i.if-eq.ensures) (told_eq ANNEX k.next_of-kind.ensures j.if-eq-2.ensures)
-    (rw (← k.next_of-kind.ensures, ← p.second_of.ensures, ← p.is_process.ensures) l.if-is_process.true)
+    (told_eq THREAD c.next_of-kind.ensures c.if-eq.ensures) (told_eq ANNEX c.next_of-kind.ensures c.if-eq-2.ensures)
+    (rw (← c.next_of-kind.ensures, ← c.second_of.ensures, ← c.is_process.ensures) c.if-is_process.true)
 
 pub returns : goal.returns
 returns c =
-    let p = c in let j = p in let i = j in let k = i in let a = k.args in
+    let a = c.args in
     c.other.ensures a.rows.now
     ∙ chosen_other (state_of a.text.now a.reading a.rows.now)
-    (told_eq THREAD k.next_of-kind.ensures i.if-eq.ensures) (told_eq ANNEX k.next_of-kind.ensures j.if-eq-2.ensures)
-    (rw (← k.next_of-kind.ensures, ← p.second_of.ensures, ← p.is_process.ensures) c.if-is_process.false)
+    (told_eq THREAD c.next_of-kind.ensures c.if-eq.ensures) (told_eq ANNEX c.next_of-kind.ensures c.if-eq-2.ensures)
+    (rw (← c.next_of-kind.ensures, ← c.second_of.ensures, ← c.is_process.ensures) c.if-is_process.false)

@@ -25,9 +25,9 @@ shape_of-rows c = search rules
 pub returns : goal.returns
 unfolding declaration
 returns c =
-    let u = c in let v = u in let a = v.args in
+    let a = c.args in
     let p = a.text.now in let s = state_of p a.reading a.rows.now in
-    let e : state_of p v.with_props-fresh.result a.rows.now ≡ fresh s = rw v.with_props-fresh.ensures in
-    let f : state_of p u.chosen.result u.chosen.new.rows ≡ does (fresh s) chosen =
-    u.chosen.ensures ∙ ap (λ (t : State). does t chosen) e in
+    let e : state_of p c.with_props-fresh.result a.rows.now ≡ fresh s = rw c.with_props-fresh.ensures in
+    let f : state_of p c.chosen.result c.chosen.new.rows ≡ does (fresh s) chosen =
+    c.chosen.ensures ∙ ap (λ (t : State). does t chosen) e in
     rw c.with_props.ensures (ap (λ (t : State). with_props s.props t) f ∙ does_apart s chosen)

@@ -8,10 +8,10 @@ use Rattle.texts.proofs.end.Goals as goal
 
 pub returns-then-eq : goal.returns-then-eq
 returns-then-eq c =
-    let k = c in let a = k.args in
-    finished_on (lift a.text.now a.went) (told_eq ENDED k.next.ensures c.if-eq.ensures)
+    let a = c.args in
+    finished_on (lift a.text.now a.went) (told_eq ENDED c.next.ensures c.if-eq.ensures)
 
 pub returns : goal.returns
 returns c =
-    let k = c in let a = k.args in
-    c.stop.ensures ∙ finished_off (lift a.text.now a.went) (told_eq ENDED k.next.ensures c.if-eq.ensures)
+    let a = c.args in
+    c.stop.ensures ∙ finished_off (lift a.text.now a.went) (told_eq ENDED c.next.ensures c.if-eq.ensures)

@@ -8,10 +8,10 @@ use Rattle.texts.proofs.none_or_some.Goals as goal
 
 pub returns-then-eq : goal.returns-then-eq
 returns-then-eq c =
-    let k = c in let a = k.args in
-    c.nothing.ensures ∙ none_on (lift a.text.now a.went) (told_eq NONE k.next.ensures c.if-eq.ensures)
+    let a = c.args in
+    c.nothing.ensures ∙ none_on (lift a.text.now a.went) (told_eq NONE c.next.ensures c.if-eq.ensures)
 
 pub returns : goal.returns
 returns c =
-    let k = c in let a = k.args in
-    c.associations.ensures ∙ none_off (lift a.text.now a.went) (told_eq NONE k.next.ensures c.if-eq.ensures)
+    let a = c.args in
+    c.associations.ensures ∙ none_off (lift a.text.now a.went) (told_eq NONE c.next.ensures c.if-eq.ensures)

@@ -11,12 +11,12 @@ use Rattle.texts.proofs.packaged.Goals as goal
 
 pub returns : goal.returns
 returns c =
-    let u = c in let o = u in let y = o in let a = y.args in
+    let a = c.args in
     let p = a.text.now in let m = a.rows.now in let s = state_of p a.reading m in
-    let inner = state_of p u.parts-inner.result u.parts-inner.new.rows in
-    let behind : state_of p o.on-head.result m ≡ does s (quiet package_head) =
-    rw (o.on-head.ensures, o.path.ensures, y.symbol.ensures, head_then s.went) (does_quiet s package_head) in
+    let inner = state_of p c.parts-inner.result c.parts-inner.new.rows in
+    let behind : state_of p c.on-head.result m ≡ does s (quiet package_head) =
+    rw (c.on-head.ensures, c.path.ensures, c.symbol.ensures, head_then s.went) (does_quiet s package_head) in
     rw (c.on.ensures, c.path_end.ensures)
     (does_quiet inner path_end
-    ∙ ap (λ (t : State). does t (quiet path_end)) (u.parts-inner.ensures ∙ ap (λ (t : State). does t parts) behind)
+    ∙ ap (λ (t : State). does t (quiet path_end)) (c.parts-inner.ensures ∙ ap (λ (t : State). does t parts) behind)
     ∙ package_does s)

@@ -8,13 +8,13 @@ use Rattle.texts.proofs.part.Goals as goal
 
 pub returns-then-begins_clause : goal.returns-then-begins_clause
 returns-then-begins_clause c =
-    let i = c in let b = i in let a = b.args in
+    let a = c.args in
     let s = state_of a.text.now a.reading a.rows.now in
     rw (c.on.ensures, c.clause.ensures)
-    (does_quiet s clause ∙ part_clause s (rw (← b.next.ensures, ← b.begins_clause.ensures) i.if-begins_clause.true))
+    (does_quiet s clause ∙ part_clause s (rw (← c.next.ensures, ← c.begins_clause.ensures) c.if-begins_clause.true))
 
 pub returns : goal.returns
 returns c =
-    let u = c in let i = u in let b = i in let a = b.args in
+    let a = c.args in
     let s = state_of a.text.now a.reading a.rows.now in
-    u.declaration.ensures ∙ part_declaration s (rw (← b.next.ensures, ← b.begins_clause.ensures) i.if-begins_clause.false)
+    c.declaration.ensures ∙ part_declaration s (rw (← c.next.ensures, ← c.begins_clause.ensures) c.if-begins_clause.false)

@@ -8,11 +8,11 @@ use Rattle.texts.proofs.piece.Goals as goal
 
 pub returns-then-eq : goal.returns-then-eq
 returns-then-eq c =
-    let u = c in let i = u in let k = i in let a = k.args in
-    u.packaged.ensures ∙ piece_package (state_of a.text.now a.reading a.rows.now) (told_eq PACKAGE k.next_of.ensures i.if-eq.ensures)
+    let a = c.args in
+    c.packaged.ensures ∙ piece_package (state_of a.text.now a.reading a.rows.now) (told_eq PACKAGE c.next_of.ensures c.if-eq.ensures)
 
 pub returns : goal.returns
 returns c =
-    let u = c in let i = u in let k = i in let a = k.args in
-    u.declaration.ensures ∙ piece_declaration (state_of a.text.now a.reading a.rows.now)
-    (told_eq PACKAGE k.next_of.ensures i.if-eq.ensures)
+    let a = c.args in
+    c.declaration.ensures ∙ piece_declaration (state_of a.text.now a.reading a.rows.now)
+    (told_eq PACKAGE c.next_of.ensures c.if-eq.ensures)

@@ -11,21 +11,21 @@ loop-rows-init c = (refl, refl)
 
 pub loop-rows-smaller : goal.loop-rows-smaller
 loop-rows-smaller c =
-    let f = c in let k = f in let l = k in let a = l.args in
-    let s = state_of a.text.now l.loop-rows.r l.loop-rows.rows in
-    rw (ap (λ (x : State). x.went) f.piece-r.ensures)
+    let a = c.args in
+    let s = state_of a.text.now c.loop-rows.r c.loop-rows.rows in
+    rw (ap (λ (x : State). x.went) c.piece-r.ensures)
     (repeat_less begins_piece piece piece_advances s (piece_on s.went
-    (rw (← k.next_of.ensures, ← k.begins_piece.ensures) f.loop-rows-test.true)))
+    (rw (← c.next_of.ensures, ← c.begins_piece.ensures) c.loop-rows-test.true)))
 
 pub loop-rows-preserved : goal.loop-rows-preserved
 unfolding pieces
 loop-rows-preserved c =
-    let f = c in let k = f in let l = k in let a = l.args in
-    let s = state_of a.text.now l.loop-rows.r l.loop-rows.rows in (
-      rw f.piece-r.ensures
+    let a = c.args in
+    let s = state_of a.text.now c.loop-rows.r c.loop-rows.rows in (
+      rw c.piece-r.ensures
           (repeat_on begins_piece piece piece_advances s (piece_on s.went
-          (rw (← k.next_of.ensures, ← k.begins_piece.ensures) f.loop-rows-test.true))
-          ∙ l.loop-rows.invariant.0),
+          (rw (← c.next_of.ensures, ← c.begins_piece.ensures) c.loop-rows-test.true))
+          ∙ c.loop-rows.invariant.0),
       search rules,
     )
 
@@ -35,8 +35,8 @@ shape_of-rows c = c.loop-rows.invariant.1
 pub returns : goal.returns
 unfolding pieces
 returns c =
-    let k = c in let l = k in let a = l.args in
-    let s = state_of a.text.now l.loop-rows.r l.loop-rows.rows in
+    let a = c.args in
+    let s = state_of a.text.now c.loop-rows.r c.loop-rows.rows in
     repeat_off begins_piece piece piece_advances s (piece_off s.went
-    (rw (← k.next_of.ensures, ← k.begins_piece.ensures) c.loop-rows-test.false))
-    ∙ l.loop-rows.invariant.0
+    (rw (← c.next_of.ensures, ← c.begins_piece.ensures) c.loop-rows-test.false))
+    ∙ c.loop-rows.invariant.0

@@ -10,11 +10,11 @@ use Rattle.texts.proofs.read.Goals as goal
 
 pub returns : goal.returns
 returns c =
-    let u = c in let b = u in let a = b.args in
+    let a = c.args in
     let p = a.text.now in let m = a.rows.now in let s = state_of p begun m in
-    let inner = state_of p u.pieces-whole.result u.pieces-whole.new.rows in
-    let first : state_of p b.begun.result m ≡ s = rw b.begun.ensures in
+    let inner = state_of p c.pieces-whole.result c.pieces-whole.new.rows in
+    let first : state_of p c.begun.result m ≡ s = rw c.begun.ensures in
     rw (c.on.ensures, c.end.ensures)
     (does_quiet inner finished
-    ∙ ap (λ (t : State). does t (quiet finished)) (u.pieces-whole.ensures ∙ ap (λ (t : State). does t pieces) first)
+    ∙ ap (λ (t : State). does t (quiet finished)) (c.pieces-whole.ensures ∙ ap (λ (t : State). does t pieces) first)
     ∙ text_does s)

@@ -8,21 +8,21 @@ use Rattle.texts.proofs.thread_by.Goals as goal
 
 pub returns-then-eq : goal.returns-then-eq
 returns-then-eq c =
-    let u = c in let i = u in let k = i in let a = k.args in
-    u.thread_implementation.ensures ∙ thread_by_implementation (state_of a.text.now a.reading a.rows.now)
-    (told_eq IMPLEMENTATION k.second_of-second.ensures i.if-eq.ensures)
+    let a = c.args in
+    c.thread_implementation.ensures ∙ thread_by_implementation (state_of a.text.now a.reading a.rows.now)
+    (told_eq IMPLEMENTATION c.second_of-second.ensures c.if-eq.ensures)
 
 pub returns-then-eq-2 : goal.returns-then-eq-2
 returns-then-eq-2 c =
-    let i = c in let k = i in let a = k.args in
+    let a = c.args in
     c.other.ensures a.rows.now
     ∙ thread_by_group (state_of a.text.now a.reading a.rows.now)
-    (told_eq IMPLEMENTATION k.second_of-second.ensures i.if-eq.ensures) (told_eq GROUP k.second_of-second.ensures c.if-eq-2.ensures)
+    (told_eq IMPLEMENTATION c.second_of-second.ensures c.if-eq.ensures) (told_eq GROUP c.second_of-second.ensures c.if-eq-2.ensures)
 
 pub returns : goal.returns
 returns c =
-    let u = c in let j = u in let i = j in let k = i in let a = k.args in
-    u.thread_type.ensures
+    let a = c.args in
+    c.thread_type.ensures
     ∙ thread_by_type (state_of a.text.now a.reading a.rows.now)
-    (told_eq IMPLEMENTATION k.second_of-second.ensures i.if-eq.ensures)
-    (told_eq GROUP k.second_of-second.ensures j.if-eq-2.ensures)
+    (told_eq IMPLEMENTATION c.second_of-second.ensures c.if-eq.ensures)
+    (told_eq GROUP c.second_of-second.ensures c.if-eq-2.ensures)

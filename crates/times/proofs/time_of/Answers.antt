@@ -4,13 +4,11 @@ use Rattle.times.proofs.time_of.Goals as goal
 
 pub returns-then-s : goal.returns-then-s
 returns-then-s c =
-    let k = c in
-    let a = k.args in
-    time_whole a.text.now a.number a.places k.sum_of-s.result k.sum_of-s.ensures.0 a.went
+    let a = c.args in
+    time_whole a.text.now a.number a.places c.sum_of-s.result c.sum_of-s.ensures.0 a.went
     c.filled.result c.if-s.true c.filled.ensures.0
 
 pub returns : goal.returns
 returns c =
-    let k = c in
-    let a = k.args in
-    time_not_whole a.text.now a.number a.places k.sum_of-s.result k.sum_of-s.ensures.0 a.went c.if-s.false
+    let a = c.args in
+    time_not_whole a.text.now a.number a.places c.sum_of-s.result c.sum_of-s.ensures.0 a.went c.if-s.false

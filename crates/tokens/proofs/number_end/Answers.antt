@@ -21,15 +21,14 @@ byte_at-requires c = search rules
 pub returns-then-byte_at-ne46 : goal.returns-then-byte_at-ne46
 unfolding number_width
 returns-then-byte_at-ne46 c =
-    let k = c in
-    let a = k.args in
-    number_plain a.text.now a.at k.past-end.result k.past-end.ensures (rw (← c.byte_at.ensures) c.if-byte_at-ne46.true)
+    let a = c.args in
+    number_plain a.text.now a.at c.past-end.result c.past-end.ensures (rw (← c.byte_at.ensures) c.if-byte_at-ne46.true)
 
 pub overflow_add-end : goal.overflow_add-end
 unfolding number_width
 overflow_add-end c =
-    let k = c in let a = k.args in
-    omega (arith, k.past-end.ensures, past_le a.text.now 3 4 a.at (search rules))
+    let a = c.args in
+    omega (arith, c.past-end.ensures, past_le a.text.now 3 4 a.at (search rules))
 
 pub byte_at-requires-2 : goal.byte_at-requires-2
 unfolding number_width
@@ -42,17 +41,16 @@ sort_of-requires c = search rules
 pub returns-then-ne : goal.returns-then-ne
 unfolding number_width
 returns-then-ne c =
-    let k = c in
-    let a = k.args in
-    number_ends a.text.now a.at k.past-end.result k.past-end.ensures
+    let a = c.args in
+    number_ends a.text.now a.at c.past-end.result c.past-end.ensures
     (λ e. differs_true the_type c.sort_of.result Sort.Digit (sym c.if-ne.ensures)
     (sort_is c.sort_of.result Sort.Digit (c.sort_of.ensures ∙ rw c.byte_at-2.ensures e)))
 
 pub overflow_add-end-2 : goal.overflow_add-end-2
 unfolding number_width
 overflow_add-end-2 c =
-    let k = c in let a = k.args in
-    omega (arith, k.past-end.ensures, past_le a.text.now 3 4 a.at (search rules))
+    let a = c.args in
+    omega (arith, c.past-end.ensures, past_le a.text.now 3 4 a.at (search rules))
 
 pub past-requires : goal.past-requires
 unfolding number_width
@@ -61,10 +59,8 @@ past-requires c = search rules
 pub returns : goal.returns
 unfolding number_width
 returns c =
-    let k = c in
-    let a = k.args in
-    let b = c in
-    c.past.ensures ∙ number_goes a.text.now a.at k.past-end.result k.past-end.ensures
-    (rw (← b.byte_at.ensures) b.if-byte_at-ne46.false)
+    let a = c.args in
+    c.past.ensures ∙ number_goes a.text.now a.at c.past-end.result c.past-end.ensures
+    (rw (← c.byte_at.ensures) c.if-byte_at-ne46.false)
     (sym (c.sort_of.ensures ∙ rw c.byte_at-2.ensures refl) ∙
     ap rank (differs_false the_type tt c.sort_of.result Sort.Digit (sym c.if-ne.ensures)))

@@ -11,15 +11,13 @@ returns-then-text-start c =
 
 pub overflow_add-result : goal.overflow_add-result
 overflow_add-result c =
-    let k = c in
-    let p = k.args.text.now in
-    let at = k.past-start.result in
+    let p = c.args.text.now in
+    let at = c.past-start.result in
     let f = shape_fits (drop at p) (simp length-drop (search rules)) in
     omega (arith, ap (λ (s : Shape). s.width) c.shape_at-shape.ensures, simp length-drop at f)
 
 pub returns : goal.returns
 returns c =
-    let k = c in
-    let a = k.args in
-    stands_token a.text.now a.at k.past-start.result c.shape_at-shape.result
-    k.past-start.ensures (search rules) c.shape_at-shape.ensures
+    let a = c.args in
+    stands_token a.text.now a.at c.past-start.result c.shape_at-shape.result
+    c.past-start.ensures (search rules) c.shape_at-shape.ensures

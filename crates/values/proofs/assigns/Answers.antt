@@ -7,10 +7,10 @@ use Rattle.values.proofs.assigns.Goals as goal
 
 pub returns-then-eq : goal.returns-then-eq
 returns-then-eq c =
-    let n = c in let a = n.args in
-    rw c.symbol.ensures (assigns_adds (lift a.text.now a.went) (told_eq ADDS n.next.ensures c.if-eq.ensures))
+    let a = c.args in
+    rw c.symbol.ensures (assigns_adds (lift a.text.now a.went) (told_eq ADDS c.next.ensures c.if-eq.ensures))
 
 pub returns : goal.returns
 returns c =
-    let n = c in let a = n.args in
-    rw c.symbol-2.ensures (assigns_becomes (lift a.text.now a.went) (told_eq ADDS n.next.ensures c.if-eq.ensures))
+    let a = c.args in
+    rw c.symbol-2.ensures (assigns_becomes (lift a.text.now a.went) (told_eq ADDS c.next.ensures c.if-eq.ensures))

@@ -5,6 +5,6 @@ use Rattle.values.proofs.association.Goals as goal
 
 pub returns : goal.returns
 returns c =
-    let k = c in let a = k.args in
-    rw (c.symbol.ensures, k.values.ensures, k.assigns.ensures, k.scoped.ensures)
+    let a = c.args in
+    rw (c.symbol.ensures, c.values.ensures, c.assigns.ensures, c.scoped.ensures)
     (association_then (lift a.text.now a.went))

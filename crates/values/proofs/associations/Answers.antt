@@ -27,20 +27,20 @@ association-w-requires c = search rules
 pub loop-w-smaller : goal.loop-w-smaller
 unfolding associations
 loop-w-smaller c =
-    let k = c in let l = k in let s = lift l.args.text.now l.loop-w.w in
+    let s = lift c.args.text.now c.loop-w.w in
     rw c.association-w.ensures (many_less named association (advances named association_moves) s
-    (kind_on is_name s refl (rw (← k.next.ensures, ← k.is_name.ensures) c.loop-w-test.true)))
+    (kind_on is_name s refl (rw (← c.next.ensures, ← c.is_name.ensures) c.loop-w-test.true)))
 
 pub loop-w-preserved : goal.loop-w-preserved
 unfolding associations
 loop-w-preserved c =
-    let k = c in let l = k in let s = lift l.args.text.now l.loop-w.w in
+    let s = lift c.args.text.now c.loop-w.w in
     rw c.association-w.ensures (many_on named association (advances named association_moves) s
-    (kind_on is_name s refl (rw (← k.next.ensures, ← k.is_name.ensures) c.loop-w-test.true)) ∙ l.loop-w.invariant)
+    (kind_on is_name s refl (rw (← c.next.ensures, ← c.is_name.ensures) c.loop-w-test.true)) ∙ c.loop-w.invariant)
 
 pub returns : goal.returns
 unfolding associations
 returns c =
-    let k = c in let l = k in let s = lift l.args.text.now l.loop-w.w in
+    let s = lift c.args.text.now c.loop-w.w in
     many_off named association (advances named association_moves) s
-    (kind_off is_name s (rw (← k.next.ensures, ← k.is_name.ensures) c.loop-w-test.false)) ∙ l.loop-w.invariant
+    (kind_off is_name s (rw (← c.next.ensures, ← c.is_name.ensures) c.loop-w-test.false)) ∙ c.loop-w.invariant

@@ -5,5 +5,5 @@ use Rattle.values.proofs.block.Goals as goal
 
 pub returns : goal.returns
 returns c =
-    let k = c in let a = k.args in
-    rw (c.symbol-2.ensures, k.associations.ensures, k.symbol.ensures) (block_then (lift a.text.now a.went))
+    let a = c.args in
+    rw (c.symbol-2.ensures, c.associations.ensures, c.symbol.ensures) (block_then (lift a.text.now a.went))

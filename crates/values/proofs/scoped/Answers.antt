@@ -14,20 +14,20 @@ loop-w-init c = refl
 
 pub loop-w-smaller : goal.loop-w-smaller
 loop-w-smaller c =
-    let k = c in let s = lift k.args.text.now k.loop-w.w in
+    let s = lift c.args.text.now c.loop-w.w in
     rw (c.name-w-in-loop-w.ensures, c.symbol.ensures, then_then s (the SCOPE) name)
     (many_less (is SCOPE) inner (advances (is SCOPE) inner_moves) s
-    (is_on SCOPE s refl (told_eq SCOPE k.next.ensures k.loop-w-test.ensures)))
+    (is_on SCOPE s refl (told_eq SCOPE c.next.ensures c.loop-w-test.ensures)))
 
 pub loop-w-preserved : goal.loop-w-preserved
 loop-w-preserved c =
-    let k = c in let s = lift k.args.text.now k.loop-w.w in
+    let s = lift c.args.text.now c.loop-w.w in
     rw (c.name-w-in-loop-w.ensures, c.symbol.ensures, then_then s (the SCOPE) name)
     (many_on (is SCOPE) inner (advances (is SCOPE) inner_moves) s
-    (is_on SCOPE s refl (told_eq SCOPE k.next.ensures k.loop-w-test.ensures)) ∙ k.loop-w.invariant)
+    (is_on SCOPE s refl (told_eq SCOPE c.next.ensures c.loop-w-test.ensures)) ∙ c.loop-w.invariant)
 
 pub returns : goal.returns
 returns c =
-    let l = c in let a = l.args in let s = lift a.text.now l.loop-w.w in
+    let a = c.args in let s = lift a.text.now c.loop-w.w in
     many_off (is SCOPE) inner (advances (is SCOPE) inner_moves) s (is_off SCOPE s (told_eq SCOPE c.next.ensures c.loop-w-test.ensures))
-    ∙ l.loop-w.invariant ∙ rw l.name-w.ensures (scoped_then (lift a.text.now a.went))
+    ∙ c.loop-w.invariant ∙ rw c.name-w.ensures (scoped_then (lift a.text.now a.went))

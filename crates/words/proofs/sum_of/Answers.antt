@@ -11,12 +11,11 @@ loop-i-init c = (refl, search rules, search rules, search rules)
 pub loop-i-preserved : goal.loop-i-preserved
 unfolding sum_by
 loop-i-preserved c =
-    let l = c in
-    let t = l.args.text.now in
-    let e = l.args.end in
-    let i = l.loop-i.i in
+    let t = c.args.text.now in
+    let e = c.args.end in
+    let i = c.loop-i.i in
     let n : e - i - 1 ≡ e - (i + 1) = omega arith in (
-      rw c.wide.ensures.0 (rw (part_cons t i (e - i) (search rules) (search rules), n) at l.loop-i.invariant.0),
+      rw c.wide.ensures.0 (rw (part_cons t i (e - i) (search rules) (search rules), n) at c.loop-i.invariant.0),
       search rules,
       search rules,
       mod-lt _ (search rules),
@@ -25,6 +24,5 @@ loop-i-preserved c =
 pub returns : goal.returns
 unfolding sum_by
 returns c =
-    let l = c in
-    let z : l.args.end - l.loop-i.i ≡ 0 = search rules in
-    (rw z at l.loop-i.invariant.0, search rules)
+    let z : c.args.end - c.loop-i.i ≡ 0 = search rules in
+    (rw z at c.loop-i.invariant.0, search rules)
