@@ -40,7 +40,7 @@ NAMES = [
     '5a functions of eight parameters or more',
     '5b functions that are lent a plan column by column',
     '5c functions that take text, rows and count side by side',
-    '5d contract clauses that restate one fact (Lent, Known, Indexed, lent_plan, room, carry)',
+    '5d contract clauses that restate one fact (Lent, Usable, Remembers, sound, Known, Indexed, room, carry)',
     '6a a buffer with its length beside it (used, written, count, n)',
     '6b rows of numbers in one flat array, by ROW * k + c',
     '7a switches on a number that says which step to run',
@@ -98,7 +98,7 @@ for path in sorted(glob.glob(root + '/crates/*/src/**/*.rt', recursive=True)):
                 note(NAMES[9], path, k, line)
         if re.search(r'(ROW|row_words) \* ', line) and not re.search(r'requires|ensures|×|≤', line):
             note(NAMES[17], path, k, line)
-        if re.search(r'sound_plan \(lent_plan|\bLent sends\.now|Known text\.now|Indexed text\.now|longest_answer ≤ length|used ≤ carry_limit|Remembers \(lent_plan|row_words \* count ≤', line):
+        if re.search(r'sound_plan \(lent_plan|\bsound ≡ sound_plan plan|\bLent (sends|plan)\.now|\bUsable plan|Known text\.now|Indexed text\.now|longest_answer ≤ length|used ≤ carry_limit|Remembers |row_words \* count ≤', line):
             note(NAMES[15], path, k, line)
     for at, head, body in functions(text):
         name = re.search(r'fn (\w+)', head).group(1)

@@ -4,32 +4,31 @@
 #![tactic(auto)]
 
 ghost use Rattle.std.specs.Prelude.{◌<◌, ◌≤◌, ◌≡◌, length};
-ghost use Rattle.blocks.specs.Stream.{Came, Gone, is_open, most_blocks};
+ghost use Rattle.blocks.specs.Stream.{Came, Gone, closed, is_open, most_blocks};
 
 use std::io::{Read, Stderr, Stdin, Stdout};
 
-// Whether a program has to go on: how many blocks may still come, and None where the stream is closed. The field is this crate's own, so
-// that only a read that gave nothing and a write that failed close a stream: a program whose contract asks for a closed one cannot give
-// up before. A proved loop has to end, and nothing says that the input does: so blocks count down, from a number that no run uses up.
+// Whether a program has to go on: Ok while the stream is open, with how many blocks may still come, and Err where it is closed, with as
+// many as when it closed. The field is this crate's own, so that only a read that gave nothing and a write that failed close a stream: a
+// program whose contract asks for a closed one cannot give up before. A proved loop has to end, and nothing says that the input does: so
+// blocks count down, from a number that no run uses up.
 #[derive(Clone, Copy)]
 pub struct Stream {
-    left: Option<u64>,
+    left: Result<u64, u64>,
 }
 
 impl Stream {
     // Nothing was read or written yet.
     pub fn open() -> Stream
-        ensures { result ≡ record { left = Some most_blocks } }
+        ensures { result ≡ record { left = Ok most_blocks } }
     {
-        Stream {
-            left: Some(u64::MAX),
-        }
+        Stream { left: Ok(u64::MAX) }
     }
 
     pub fn goes_on(&self) -> bool
         ensures { result ≡ is_open self.now }
     {
-        self.left.is_some()
+        self.left.is_ok()
     }
 
     // Reads what there is, once, and answers how many bytes came; None closes the stream, at the end of the input. It does not wait for
@@ -38,13 +37,15 @@ impl Stream {
         requires { 0 < length block.old }
         ensures { Came self.old (length block.old) result self.new }
     {
+        let left = self.left.ok()?;
         // until a block has come the stream is closed
-        let left = self.left.take()?.checked_sub(1)?;
+        self.left = Err(left);
+        let fewer = left.checked_sub(1)?;
         let bytes = stdin.read(block).unwrap_or(0);
         if bytes == 0 {
             return None;
         }
-        self.left = Some(left);
+        self.left = Ok(fewer);
         Some(bytes)
     }
 
@@ -52,8 +53,10 @@ impl Stream {
     pub fn write_answers(&mut self, stdout: Stdout, answers: &[u8])
         ensures { Gone self.old self.new }
     {
-        if stdout.write_all(answers).is_err() {
-            self.left = None;
+        if stdout.write_all(answers).is_err()
+            && let Ok(left) = self.left
+        {
+            self.left = Err(left);
         }
     }
 }
