@@ -1,5 +1,5 @@
 -- What is known of a stream after a block was read, and after answers were written. What was read or written no contract can say.
-use Rattle.std.specs.Prelude.{ℕ, ◌<◌, ◌≤◌, Bool, true, ◌≡◌, Option, Some, None, Ok, Err, is_ok}
+use Rattle.std.specs.Prelude.{ℕ, ◌+◌, ◌<◌, ◌≤◌, Bool, true, ◌≡◌, Option, Some, None, Ok, Err, is_ok}
 use Rattle.blocks.specs.declared.Stream.{Stream}
 
 -- the most that a u64 holds: at a block in a nanosecond it lasts for 584 years
@@ -22,7 +22,7 @@ pub record Block (s : Stream) (room bytes : ℕ) (r : Stream) : Type 0 where
   pub fits : bytes ≤ room
   pub was_open : is_open s ≡ true
   pub goes_on : is_open r ≡ true
-  pub fewer : blocks_left r < blocks_left s
+  pub fewer : blocks_left r + 1 ≡ blocks_left s
 
 -- a read into so much room: where none came the stream is closed, with as many left, and else a block less is left
 abbrev pub Came : Stream → ℕ → Option ℕ → Stream → Type 0

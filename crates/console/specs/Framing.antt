@@ -59,13 +59,22 @@ module _ (line buffer : List ℕ) (x : Option ℕ) (bytes : List ℕ) (is : (x �
   abbrev Found : ℕ → Type 0
   Found n = (n ≤ most_bytes) × (take n bytes ≡ framed_bytes line) × (bytes ≡ decoded_into line buffer)
 
-  -- no bytes where the line is no frame
-  pub framed : most_bytes ≤ length buffer → Found (unwrap_or x 0)
+  -- the frame's bytes, where there was room for the longest
+  pub framed_some : most_bytes ≤ length buffer → (n : ℕ) → x ≡ Some n → Found n
   unfolding framed_bytes
+  framed_some room n e =
+      let h = decoded_holds line buffer n room (sym is.0 ∙ e) in
+      (h.within, rw (is.1, h.is_line_lem) h.bytes_are, is.1)
+
+  -- no bytes where the line is no frame, whatever room there was
+  pub framed_none : x ≡ None → Found 0
+  unfolding framed_bytes
+  framed_none e = (omega arith, rw (decoded_none line (sym is.0 ∙ e)), is.1)
+
+  -- and of any line
+  pub framed : most_bytes ≤ length buffer → Found (unwrap_or x 0)
   framed room = go x refl
     where
       go : (y : Option ℕ) → x ≡ y → Found (unwrap_or y 0)
-      go (Some n) e =
-          let h = decoded_holds line buffer n room (sym is.0 ∙ e) in
-          (h.within, rw (is.1, h.is_line_lem) h.bytes_are, is.1)
-      go None e = (omega arith, rw (decoded_none line (sym is.0 ∙ e)), is.1)
+      go (Some n) e = framed_some room n e
+      go None e = framed_none e

@@ -131,6 +131,17 @@ module _ (line : List ℕ) where
       rw (add-one k, below_both bits (bit_or high low), below_both high low, p.1, eh, el, every_one (pair_at line) k),
     )
 
+    -- the same where the two digits' bits are added one after the other
+    pub passed_each :
+        (high low byte : ℕ) → high ≡ digit (get_or line (2 * k) 0) → low ≡ digit (get_or line (2 * k + 1) 0) →
+        byte ≡ (high * 16 + low) % 256 →
+        Passed buffer (k + 1) (set bytes k byte) (bit_or (bit_or bits high) low)
+    unfolding Passed every
+    passed_each high low byte eh el eb = (
+      rw (p.0, eb, eh, el) (sets_table (stored_at line) buffer k),
+      rw (add-one k, below_both (bit_or bits high) low, below_both bits high, p.1, eh, el) (and_assoc (every (pair_at line) k) _ _),
+    )
+
     pub passed_all : (n : ℕ) → k ≡ n → (ltb bits no_digit ≡ every (pair_at line) n) × (bytes ≡ sets buffer 0 (table (stored_at line) n))
     unfolding Passed
     passed_all n e = (rw e at p.1, rw e at p.0)

@@ -11,7 +11,7 @@ use Rattle.feed.specs.Answers.{Console, next, reply, console_after, answers_to, 
 pub use Rattle.feed.specs.Feed.{Answered}
 use Rattle.feed.specs.Feed.{enough, Feeding, still, onward, going, feed_of}
 use Rattle.feed.specs.Step.{line_cut}
-use Rattle.feed.specs.Outcome.{fed_from, Outcome}
+use Rattle.feed.specs.Outcome.{fed_from, HeldOutcome, Outcome}
 use Rattle.feed.specs.declared.Fed.{Fed as FedResult}
 use Rattle.desk.specs.declared.Desk.{Desk}
 use Rattle.lines.specs.declared.Carry.{Carry}
@@ -95,15 +95,22 @@ feed_moves w c (b ∷ bs) room h l = rw (le-ltb room enough h) (go (eqb b line_f
     go false e = rw e (omega arith)
 
 -- as a caller sees it
-pub next_moves :
-    (w : Console) (c piece : List ℕ) (from : ℕ) (out out₀ : List ℕ) (r : FedResult) (d : Desk) (m : List ℕ) (k : Carry) (o : List ℕ) →
-    Outcome (fed_from w c piece from out) piece from out₀ r d m k o → enough ≤ length out → from < length piece → from < r.next
-next_moves w c piece from out out₀ r d m k o a room l =
+pub held_moves :
+    (w : Console) (c piece : List ℕ) (from : ℕ) (out out₀ : List ℕ) (r : FedResult) (d : Desk) (m held : List ℕ)
+    (used : ℕ) (o : List ℕ) →
+    HeldOutcome (fed_from w c piece from out) piece from out₀ r d m held used o → enough ≤ length out → from < length piece →
+    from < r.next
+held_moves w c piece from out out₀ r d m held used o a room l =
     omega (
       arith,
       ap (λ (x : FedResult). x.next) a.result,
       feed_moves w c (drop from piece) (length out) room (rw (length-drop from piece) (omega arith)),
     )
+
+pub next_moves :
+    (w : Console) (c piece : List ℕ) (from : ℕ) (out out₀ : List ℕ) (r : FedResult) (d : Desk) (m : List ℕ) (k : Carry) (o : List ℕ) →
+    Outcome (fed_from w c piece from out) piece from out₀ r d m k o → enough ≤ length out → from < length piece → from < r.next
+next_moves w c piece from out out₀ r d m k o a room l = held_moves w c piece from out out₀ r d m k.held k.used o a room l
 
 -- and where it leaves a part of the block, the room is short
 going_waits : (w : Console) (c t : List ℕ) (room : ℕ) → (going w c t room).taken < length t →

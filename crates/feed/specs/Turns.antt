@@ -8,18 +8,16 @@ use Rattle.desk.specs.declared.Desk.{Desk}
 use Rattle.desk.specs.Desk.{line_turn, bytes_turn, Takes}
 use Rattle.console.specs.Framing.{framed_bytes, line_framed}
 use Rattle.console.specs.SoundDesk.{SoundDesk, line_keeps}
-use Rattle.lines.specs.Lines.{cut}
+use Rattle.lines.specs.Lines.{carry_limit, cut}
 use Rattle.lines.specs.Whole.{cut_short}
 use Rattle.lines.specs.Ends.{run, end_of, run_le}
 use Rattle.lines.specs.Held.{carried_of, held_of, held_carry}
-use Rattle.lines.specs.declared.Carry.{Carry}
-use Rattle.lines.specs.Carried.{carried}
 use Rattle.feed.specs.Answers.{Console, next, reply}
 use Rattle.feed.specs.Feed.{enough, Feeding, onward, feed_of}
 use Rattle.feed.specs.Laws.{line_fed, onward_onward, going_line, going_tail}
 use Rattle.console.specs.Fits.{answer_fits}
 use Rattle.feed.specs.Step.{put_sets}
-use Rattle.feed.specs.Outcome.{console_of, Outcome}
+use Rattle.feed.specs.Outcome.{console_of, HeldOutcome}
 
 -- ## Answers in the output buffer
 
@@ -49,23 +47,28 @@ stored_more {out₀} {out} {w} xs s h =
 
 -- ## The loop
 
-pub record Underway (f : Feeding) (piece : List ℕ) (from : ℕ) (out₀ memory out : List ℕ) (d : Desk) (k : Carry) (at w : ℕ) : Type 0 where
+pub record Underway (f : Feeding) (piece : List ℕ) (from : ℕ) (out₀ memory held out : List ℕ) (d : Desk) (u at w : ℕ) : Type 0 where
   pub past : from ≤ at
   pub inside : at ≤ length piece
+  pub used_fits : u ≤ carry_limit
+  pub held_fits : carry_limit ≤ length held
   pub stored : Stored out₀ out w
   pub sound : SoundDesk d
-  pub left : f ≡ onward (at - from) (take w out) (feed_of (console_of d memory) (carried k) (drop at piece) (length out - w))
+  pub left : f ≡ onward (at - from) (take w out) (feed_of (console_of d memory) (take u held) (drop at piece) (length out - w))
 
 pub underway_first :
-    (piece : List ℕ) (from : ℕ) (memory out : List ℕ) (d : Desk) (k : Carry) → from ≤ length piece → SoundDesk d →
-    Underway (feed_of (console_of d memory) (carried k) (drop from piece) (length out)) piece from out memory out d k from 0
-underway_first piece from memory out d k a s =
+    (piece : List ℕ) (from : ℕ) (memory held out : List ℕ) (d : Desk) (u : ℕ) → from ≤ length piece → u ≤ carry_limit →
+    carry_limit ≤ length held → SoundDesk d →
+    Underway (feed_of (console_of d memory) (take u held) (drop from piece) (length out)) piece from out memory held out d u from 0
+underway_first piece from memory held out d u a b h s =
     let e : from - from ≡ 0 = omega arith in
     let g : length out - 0 ≡ length out = omega arith in
-    let z = feed_of (console_of d memory) (carried k) (drop from piece) (length out) in
+    let z = feed_of (console_of d memory) (take u held) (drop from piece) (length out) in
     record {
       past = omega arith;
       inside = a;
+      used_fits = b;
+      held_fits = h;
       stored = stored_none out;
       sound = s;
       left = rw (e, g, zero-add z.taken);
@@ -100,19 +103,19 @@ same_feeding :
     onward j xs (feed_of w [] t m) ≡ onward k ys (feed_of w c u n)
 same_feeding w a b e c d = rw (a, b, ← e, c, d)
 
-module _ {f : Feeding} {piece : List ℕ} {from : ℕ} {out₀ memory out : List ℕ} {d : Desk} {k : Carry} {at w : ℕ}
-    (t : Underway f piece from out₀ memory out d k at w) where
-  carry_short : cut (carried k) ≡ carried k
-  carry_short = cut_short (carried k) (omega (arith, length-take k.used k.held, k.within))
+module _ {f : Feeding} {piece : List ℕ} {from : ℕ} {out₀ memory held out : List ℕ} {d : Desk} {u at w : ℕ}
+    (t : Underway f piece from out₀ memory held out d u at w) where
+  carry_short : cut (take u held) ≡ take u held
+  carry_short = cut_short (take u held) (omega (arith, length-take u held, t.used_fits))
 
   -- nothing more is answered: what is left is the carry, and n bytes that it took
   finish :
-      (n : ℕ) (k' : Carry) →
-      f ≡ record { console = console_of d memory; carry = carried k'; taken = at - from + n; answers = take w out ++ [] } →
-      at + n ≤ length piece →
-      Outcome f piece from out₀ (record { next = at + n; written = w }) d memory k' out
-  finish n k' e h =
-      let u : length (carried k') ≡ k'.used = length-take-le k'.used k'.held (omega (arith, k'.room, k'.within)) in
+      (n used' : ℕ) (held' : List ℕ) →
+      f ≡ record { console = console_of d memory; carry = take used' held'; taken = at - from + n; answers = take w out ++ [] } →
+      used' ≤ length held' → at + n ≤ length piece →
+      HeldOutcome f piece from out₀ (record { next = at + n; written = w }) d memory held' used' out
+  finish n used' held' e b h =
+      let u : length (take used' held') ≡ used' = length-take-le used' held' b in
       let m : length (take w out) ≡ w = length-take-le w out t.stored.fits in
       let a : from + (at - from + n) ≡ at + n = omega (arith, t.past) in
       rw (e, append-nil (take w out))
@@ -128,52 +131,55 @@ module _ {f : Feeding} {piece : List ℕ} {from : ℕ} {out₀ memory out : List
       })
 
   -- the room is short
-  pub turn_short : length out - w < enough → Outcome f piece from out₀ (record { next = at; written = w }) d memory k out
+  pub turn_short : length out - w < enough → HeldOutcome f piece from out₀ (record { next = at; written = w }) d memory held u out
   unfolding feed_of
   turn_short h =
       let a : at + 0 ≡ at = omega arith in
-      rw a at (finish 0 k (rw (lt-ltb (length out - w) enough h) at t.left) (omega (arith, t.inside)))
+      rw a at
+      (finish 0 u held (rw (lt-ltb (length out - w) enough h) at t.left) (omega (arith, t.used_fits, t.held_fits)) (omega (arith, t.inside)))
 
   -- no line ends in the rest of the block
   pub turn_tail :
-      (k' : Carry) → k'.used ≡ carried_of k.used (drop at piece) → k'.held ≡ held_of k.held k.used (drop at piece) →
+      {held' : List ℕ} {used' : ℕ} → used' ≡ carried_of u (drop at piece) → held' ≡ held_of held u (drop at piece) →
       enough ≤ length out - w → length piece ≤ end_of piece at →
-      Outcome f piece from out₀ (record { next = end_of piece at; written = w }) d memory k' out
+      HeldOutcome f piece from out₀ (record { next = end_of piece at; written = w }) d memory held' used' out
   unfolding feed_of end_of held_of
-  turn_tail k' u s h e =
+  turn_tail n s h e =
       let xs = drop at piece in
       let a : end_of piece at ≡ at + length xs = omega (arith, run_le xs, length-drop at piece, t.inside) in
-      let g : feed_of (console_of d memory) (carried k) xs (length out - w)
-      ≡ record { console = console_of d memory; carry = cut (carried k ++ xs); taken = length xs; answers = [] } =
+      let g : feed_of (console_of d memory) (take u held) xs (length out - w)
+      ≡ record { console = console_of d memory; carry = cut (take u held ++ xs); taken = length xs; answers = [] } =
       rw (le-ltb (length out - w) enough h)
-      (going_tail (console_of d memory) (carried k) xs (length out - w) carry_short (omega (arith, length-drop at piece))) in
-      let c : carried k' ≡ cut (carried k ++ xs) = rw (u, s) (held_carry k.held k.used xs k.within k.room) in
-      rw a
-      (finish (length xs) k'
-      (t.left ∙ ap (onward (at - from) (take w out)) g ∙ rw c) (omega (arith, length-drop at piece, t.inside)))
+      (going_tail (console_of d memory) (take u held) xs (length out - w) carry_short (omega (arith, length-drop at piece))) in
+      rw (n, s, a)
+      (finish (length xs) (carried_of u xs) (held_of held u xs)
+      (t.left ∙ ap (onward (at - from) (take w out)) g ∙ rw (held_carry held u xs t.used_fits t.held_fits))
+      (omega (arith, t.held_fits, length-sets held u (take (carry_limit - u) xs))) (omega (arith, length-drop at piece, t.inside)))
 
   -- a line ends in it, and is answered
   pub turn_line :
-      (line : List ℕ) (k' : Carry) → enough ≤ length out - w → end_of piece at < length piece →
-      line ≡ cut (carried k ++ take (end_of piece at - at) (drop at piece)) → k'.used ≡ 0 →
+      (line held' : List ℕ) (used' : ℕ) → enough ≤ length out - w → end_of piece at < length piece →
+      line ≡ cut (take u held ++ take (end_of piece at - at) (drop at piece)) → carry_limit ≤ length held' → used' ≡ 0 →
       length (reply (console_of d memory) line) ≤ enough →
       let v = next (console_of d memory) line in
       let xs = reply (console_of d memory) line in
-      Underway f piece from out₀ v.memory (sets out w xs) v.desk k' (end_of piece at + 1) (w + length xs)
+      Underway f piece from out₀ v.memory held' (sets out w xs) v.desk used' (end_of piece at + 1) (w + length xs)
   unfolding end_of
-  turn_line line k' h e l u b =
+  turn_line line held' used' h e l k z b =
       let p = drop at piece in
       let xs = reply (console_of d memory) line in
       let room = length out - w in
       let fits : w + length xs ≤ length out = omega (arith, t.stored.fits) in
       let n : end_of piece at - at ≡ run p = omega arith in
       let m : at + suc (run p) ≡ end_of piece at + 1 = omega arith in
-      let none : [] ≡ carried k' = rw u in
-      let g : feed_of (console_of d memory) (carried k) p room ≡ line_fed (console_of d memory) line p room =
-      going_on (console_of d memory) (carried k) p line room h (omega (arith, length-drop at piece)) (rw n at l) carry_short in
+      let none : [] ≡ take used' held' = rw z in
+      let g : feed_of (console_of d memory) (take u held) p room ≡ line_fed (console_of d memory) line p room =
+      going_on (console_of d memory) (take u held) p line room h (omega (arith, length-drop at piece)) (rw n at l) carry_short in
       record {
         past = omega (arith, t.past);
         inside = omega arith;
+        used_fits = omega arith;
+        held_fits = k;
         stored = stored_more xs t.stored fits;
         sound = line_keeps d memory line t.sound;
         left =
@@ -185,14 +191,14 @@ module _ {f : Feeding} {piece : List ℕ} {from : ℕ} {out₀ memory out : List
 
   -- the line is answered as the code does it
   pub turn_step :
-      {bytes line : List ℕ} {k' : Carry} (x : Turned d memory bytes out w) (e : ℕ) → enough ≤ length out - w → e ≡ end_of piece at →
-      e < length piece →
-      bytes ≡ framed_bytes line → line ≡ cut (carried k ++ part piece at (e - at)) → k'.used ≡ 0 →
-      Underway f piece from out₀ x.memory' (put_mid w (length out - w) out x.rest') x.desk' k' (e + 1) (w + x.written)
-  turn_step {line = line} {k' = k'} x e h a i b l u =
+      {bytes line held' : List ℕ} {used' : ℕ} (x : Turned d memory bytes out w) (e : ℕ) → enough ≤ length out - w →
+      e ≡ end_of piece at → e < length piece →
+      bytes ≡ framed_bytes line → line ≡ cut (take u held ++ part piece at (e - at)) → carry_limit ≤ length held' → used' ≡ 0 →
+      Underway f piece from out₀ x.memory' held' (put_mid w (length out - w) out x.rest') x.desk' used' (e + 1) (w + x.written)
+  turn_step {line = line} {held' = held'} {used' = used'} x e h a i b l k z =
       let xs = reply (console_of d memory) line in
       let s : Takes (line_turn d memory line) (mid_of w (length out - w) out) x.desk' x.written x.memory' x.rest' =
       rw (line_framed d memory line, ← b) x.takes in
       let o : put_mid w (length out - w) out x.rest' ≡ sets out w xs =
       ap (put_mid w (length out - w) out) s.3 ∙ put_sets out xs w (omega (arith, answer_fits d memory line, t.stored.fits)) in
-      rw (s.0, s.1, s.2, o, a) (turn_line line k' h (rw a at i) (rw a at l) u (answer_fits d memory line))
+      rw (s.0, s.1, s.2, o, a) (turn_line line held' used' h (rw a at i) (rw a at l) k z (answer_fits d memory line))

@@ -1,2 +1,3 @@
--- The page of this crate's definitions.
+-- The pages of this crate's definitions and laws.
 pub mod Findings
+pub mod Laws

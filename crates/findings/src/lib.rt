@@ -3,7 +3,7 @@
 #![tactic(auto)]
 
 ghost use Rattle.std.specs.Prelude.{◌≡◌};
-ghost use Rattle.findings.specs.Findings.{no_table};
+ghost use Rattle.findings.specs.Findings.{rule_of, no_table};
 
 use plan::Plan;
 pub use steps::{Fault as Refusal, Rule};
@@ -33,6 +33,20 @@ pub struct Table {
 pub struct Read {
     pub answer: Result<(), Problem>,
     pub table: Table,
+}
+
+// The rule of a fault's number: of a number that is no rule's, the nearest one's.
+#[tactic(auto, unfolding(crate::specs::Findings::rule_of))]
+pub fn rule_of(number: usize) -> Rule
+    ensures { result ≡ rule_of number }
+{
+    match number {
+        0..=20 => Rule::Unfit,
+        21 => Rule::Unknown,
+        22 => Rule::NoTime,
+        23 => Rule::TooDeep,
+        _ => Rule::Twice,
+    }
 }
 
 // The table of all zeros.

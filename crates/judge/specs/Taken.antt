@@ -1,5 +1,5 @@
 -- What holds of a running call exactly when no line of the table refuses it, in plain facts.
-use Rattle.std.specs.Prelude.{◌+◌, ◌-◌, ◌*◌, ◌<◌, ◌≤◌, ◌||◌, ◌≡◌}
+use Rattle.std.specs.Prelude.{◌+◌, ◌-◌, ◌*◌, ◌<◌, ◌≤◌, ◌||◌, ◌∷◌, ◌≡◌}
 use Rattle.common.specs.Words.{ℕ, arith, Bool, true, false, not, List, refl, sym, ◌∙◌, ltb, eqb, length, get_or, ltb-true, ltb-false}
 use Rattle.common.specs.Words.{leb-false, eqb-true, not-false, le-ltb, lt-ltb, lt-leb, eq-eqb}
 use Rattle.common.specs.Tests.{passed}
@@ -10,12 +10,14 @@ use Rattle.model.proofs.Outdating.{wanted_fits}
 use Rattle.plan.specs.Limits.{task_limit, queue_limit, longest_period, most_slots, last_tick, payload_bytes, slot_bytes}
 use Rattle.plan.specs.Plan.{queue_at, size_at, place_at, slots_of, Usable}
 use Rattle.plan.specs.Facts.{connected_iff}
+use Rattle.plan.specs.Refusals.{Line, ◌gives◌, unnamed}
 use Rattle.plan.specs.Rules.{sound_plan, connected}
 use Rattle.plan.specs.Sound.{Sound, sound_iff, usable}
 use Rattle.plan.specs.Verdicts.{Verdict, clear, verdict, Passed, clear_passed}
 use Rattle.plan.specs.declared.Plan.{Plan}
+use Rattle.plan.specs.declared.refusal.Rule.TheVariants.{ShortMemory}
 use Rattle.timing.specs.Timing.{running_lines}
-use Rattle.judge.specs.Lines.{start_lines, send_lines, receive_lines, running_job, running_deadline, receiving_job}
+use Rattle.judge.specs.Lines.{ground_lines, start_lines, send_lines, receive_lines, running_job, running_deadline, receiving_job}
 
 -- the two parts of a test that failed
 or_left : (a b : Bool) → (a || b) ≡ false → a ≡ false
@@ -38,6 +40,12 @@ slots_end {p} s =
 pub slots_fit : {p : Plan} → Sound p →
     (1 ≤ p.queues) × (p.queues ≤ queue_limit) × (place_at p (p.queues - 1) + size_at p (p.queues - 1) ≤ most_slots)
 slots_fit s = (s.checked.some_queue, s.checked.queues_fit, omega (arith, slots_end s, s.total_fits))
+
+-- of a sound plan's lines 7 and 8 the test of its last queue's place decides
+pub eight : (p : Plan) → sound_plan p ≡ true → (m : List ℕ) {b : Bool} →
+    b ≡ ltb (length m) ((place_at p (p.queues - 1) + size_at p (p.queues - 1)) * slot_bytes) → (rest : List Line) →
+    verdict (ground_lines p m rest) ≡ verdict (b gives unnamed ShortMemory ∷ rest)
+eight p h m e rest = rw (h, ← slots_end ((sound_iff p).0 h), e)
 
 -- a usable queue's receiver
 pub receiver_fits : {p : Plan} {q : ℕ} → Usable p q → (1 ≤ receiver_period (queue_at p q)) × (wanted_for (queue_at p q) ≤ longest_period)

@@ -7,6 +7,7 @@ ghost use Rattle.common.specs.Words.{get_or};
 ghost use Rattle.words.specs.Letters.{same};
 ghost use Rattle.keys.specs.Keys.{spelled, meant, same_meaning, name_byte, prime, Below, turned, stirred, named, hash_of};
 
+use tokens::in_name;
 use words::{byte_at, wide};
 
 #[derive(Clone, Copy)]
@@ -45,14 +46,11 @@ const LOW_FACTOR: usize = 742_938_285;
 const HIGH_FACTOR: usize = 950_706_376;
 
 // A byte that can stand in a name, 0 for any other.
-#[tactic(auto, using(common::specs::Tests::tests), unfolding(crate::specs::Keys::name_byte, tokens::specs::Tokens::sort_of))]
+#[tactic(auto, unfolding(crate::specs::Keys::name_byte))]
 fn name_byte(b: u8) -> u8
     ensures { result ≡ name_byte b }
 {
-    match b {
-        b'0'..=b'9' | b'_' | b'a'..=b'z' => b,
-        _ => 0,
-    }
+    if in_name(b) { b } else { 0 }
 }
 
 // The byte of a name at a place, 0 where none stands.

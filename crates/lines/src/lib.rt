@@ -1,5 +1,6 @@
 // Lines out of blocks. A line that lies inside a block is used where it stands; a line that has not ended is carried over to the next
-// block. The console answers every line of over 100 bytes in one way, so 101 bytes are kept of a line and the rest is let go.
+// block: in a `Carry`, or in a buffer that the caller lends, of which the first `used` bytes are the carry. The console answers every line
+// of over 100 bytes in one way, so 101 bytes are kept of a line and the rest is let go.
 #![tactic(auto)]
 
 ghost use Rattle.std.specs.Prelude.{◌≡◌, ◌+◌, ◌-◌, ◌≤◌};
@@ -61,6 +62,30 @@ pub fn end_of(piece: &[u8], from: usize) -> usize
     piece.len()
 }
 
+// Puts a part of a line behind the carry, as far as it is kept, and answers the carry's new length.
+pub fn keep(held: &mut [u8], used: usize, xs: &[u8]) -> usize
+    requires { (used ≤ carry_limit) × (carry_limit ≤ length held.old) }
+    ensures { (result ≡ carried_of used xs.now) × (held.new ≡ held_of held.old used xs.now) }
+{
+    let n = xs.len().min(CARRY_LIMIT - used);
+    let end = used + n;
+    held[used..end].copy_from_slice(&xs[..n]);
+    end
+}
+
+// Where the line that ends at `to` was begun by a carry, puts its part of this block behind the carry; answers how many bytes of the
+// line stand in the buffer then, none where the whole line lies in the block.
+pub fn join(held: &mut [u8], used: usize, piece: &[u8], from: usize, to: usize) -> usize
+    requires { (used ≤ carry_limit) × (carry_limit ≤ length held.old) × (from ≤ to) × (to ≤ length piece.now) }
+    ensures { (result ≡ joined_of used (part piece.now from (to - from)))
+        × (held.new ≡ joined_in held.old used (part piece.now from (to - from))) }
+{
+    if used == 0 {
+        return 0;
+    }
+    keep(held, used, &piece[from..to])
+}
+
 // The start of a line that has not ended: the first `used` bytes of `held`. What `held` has behind them means nothing.
 #[derive(Drop)]
 pub struct Carry {
@@ -87,10 +112,7 @@ impl Carry {
         ensures used { self.new.used ≡ carried_of self.old.used xs.now }
         ensures held { self.new.held ≡ held_of self.old.held self.old.used xs.now }
     {
-        let n = xs.len().min(CARRY_LIMIT - self.used);
-        let end = self.used + n;
-        self.held[self.used..end].copy_from_slice(&xs[..n]);
-        self.used = end;
+        self.used = keep(&mut self.held, self.used, xs);
     }
 
     // Takes the line that ends at `to` out of the carry. Where the carry began it, its part of this block is put behind the carry; answers
@@ -101,11 +123,7 @@ impl Carry {
         ensures held { self.new.held ≡ joined_in self.old.held self.old.used (part piece.now from (to - from)) }
         ensures emptied { self.new.used ≡ 0 }
     {
-        if self.used == 0 {
-            return 0;
-        }
-        self.keep(&piece[from..to]);
-        let n = self.used;
+        let n = join(&mut self.held, self.used, piece, from, to);
         self.used = 0;
         n
     }

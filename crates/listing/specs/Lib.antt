@@ -2,3 +2,4 @@
 pub mod Lines
 pub mod Writer
 pub mod Laws
+pub mod Sets

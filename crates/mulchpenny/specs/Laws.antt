@@ -28,9 +28,9 @@ take_on xs i n h =
 pub comes_on :
     {w : Console} {c : List ℕ} (v : Console) (carry piece : List ℕ) (at : ℕ)
     (out : List ℕ) {out₀ : List ℕ} {r : Fed} {d : Desk} {m : List ℕ}
-    {k : Carry} {o : List ℕ} → at ≤ length piece → Comes w c (take at piece) v carry →
+    (k : Carry) {o : List ℕ} → at ≤ length piece → Comes w c (take at piece) v carry →
     Outcome (fed_from v carry piece at out) piece at out₀ r d m k o → Comes w c (take r.next piece) (console_of d m) (carried k)
-comes_on {w} {c} v carry piece at out i a f =
+comes_on {w} {c} v carry piece at out k i a f =
     let g = fed_from v carry piece at out in
     let before : Feeding = record { console = v; carry = carry; taken = at; answers = answers_to w (fed c (take at piece)).lines } in
     let b = answered_append w c (take at piece) (take g.taken (drop at piece)) before g

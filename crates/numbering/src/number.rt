@@ -29,11 +29,14 @@ pub fn last_number(plan: &Plan, queue: usize, job: Job) -> Number
     Number(up_to(plan, queue, at))
 }
 
-// The first number of that window: one more than the last of the job before. There is no message before job 0.
+// The first number of that window: one more than the last of the job before. Job 0 has none before it, and no row is counted.
 pub fn first_number(plan: &Plan, queue: usize, job: Job) -> Number
     requires { Usable plan.now queue × (released (receiver_period (queue_at plan.now queue)) job.0 ≤ last_tick) }
     ensures { result ≡ message (first (queue_at plan.now queue) job.0) }
 {
-    let before = last_number(plan, queue, Job(job.0.saturating_sub(1)));
+    let Some(earlier) = job.0.checked_sub(1) else {
+        return Number(1);
+    };
+    let before = last_number(plan, queue, Job(earlier));
     Number(before.0 + 1)
 }

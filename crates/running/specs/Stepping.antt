@@ -1,6 +1,6 @@
 -- What an accepted call allows. Where a send stored its message, its job can be recorded in a state: queue and task have an entry, and the
 -- job can be counted on. Where a look names a number, that can be counted on too, and its queue is there to be stepped on.
-use Rattle.std.specs.Prelude.{◌*◌, ◌/◌, ◌<◌, ◌≤◌, ◌≡◌, Ok, Err}
+use Rattle.std.specs.Prelude.{◌*◌, ◌/◌, ◌<◌, ◌≤◌, ◌≡◌, Result, Ok, Err}
 use Rattle.common.specs.Words.{ℕ, div-le_self, arith, Bool, true, false, cond, List, refl, sym, get_or, ltb, eqb, ltb-false}
 use Rattle.model.specs.Model.{last, sender_of}
 use Rattle.calendar.specs.Calendar.{message, slot}
@@ -9,10 +9,11 @@ use Rattle.plan.specs.Plan.{queue_at}
 use Rattle.plan.specs.Sound.{usable}
 use Rattle.plan.specs.Verdicts.{verdict, by_refusal, by_clear}
 use Rattle.slots.specs.Slots.{number_in}
-use Rattle.judge.specs.Taken.{SendTaken, sender_fits, ReceiveTaken, receive_taken}
-use Rattle.running.specs.Types.{Plan, Verdict, Received}
-use Rattle.running.specs.Calls.{receive_lines, receiving_job, next_number, slot_for, found, accepted_receive, look}
+use Rattle.judge.specs.Taken.{SendTaken, send_taken, sender_fits, ReceiveTaken, receive_taken}
+use Rattle.running.specs.Types.{Plan, Refusal, Verdict, Stored, Received}
+use Rattle.running.specs.Calls.{send_answer, receive_lines, receiving_job, next_number, slot_for, found, accepted_receive, look}
 use Rattle.running.specs.Bounds.{window_small}
+use Rattle.running.specs.Outcomes.{send_is_clear}
 
 -- ## Send
 
@@ -33,6 +34,20 @@ storing {p = p} {q = q} {i = i} {t = t} x =
       period_counts = f.1.0;
       job_fits = omega (arith, x.tick_within, div-le_self t (get_or p.period i 0));
     }
+
+-- of an answer: a message that it stored can be recorded
+abbrev pub CanRecord : List ℕ → ℕ → ℕ → ℕ → Result Stored Refusal → Type 0
+CanRecord period q i t (Ok it) = Storing period q i t
+CanRecord period q i t (Err r) = Unit {0}
+
+pub send_records : (before unsent : ℕ) (p : Plan) (m : List ℕ) (q i t : ℕ) (payload : List ℕ) →
+    CanRecord p.period q i t (send_answer before unsent p m q i t payload)
+send_records before unsent p m q i t payload = go (send_answer before unsent p m q i t payload) refl
+  where
+    go : (a : Result Stored Refusal) → send_answer before unsent p m q i t payload ≡ a → CanRecord p.period q i t a
+    go (Err r) e = tt
+    go (Ok it) e =
+        storing (send_taken before unsent p m q i t payload refl (send_is_clear before unsent p m q i t payload it.number it.slot e))
 
 -- ## Receive
 

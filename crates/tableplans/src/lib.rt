@@ -1,5 +1,5 @@
 // What reading a text came to, with what planning makes of its table. It leans on the reader's findings and on planning, and not on the
-// reader: to prove it, nothing that reads a text is loaded.
+// reader: to prove it, of what stands below the reader only `steps` and `words` are loaded, where a refusal and its kinds are declared.
 #![tactic(auto)]
 
 ghost use Rattle.std.specs.Prelude.{◌≡◌};

@@ -1,6 +1,6 @@
 -- Laws of times: sums that stop at the most are the exact ones as far as the most, the forms that the code reads are those of the definition,
 -- and a time goes on by a token at least.
-use Rattle.std.specs.Prelude.{◌+◌, ◌-◌, ◌&&◌, ◌∷◌, ◌≡◌, Result, Ok, Err, Some}
+use Rattle.std.specs.Prelude.{◌+◌, ◌-◌, ◌<◌, ◌&&◌, ◌∷◌, ◌≡◌, Result, Ok, Err, Some}
 use Rattle.common.specs.Words.{ℕ, zero, suc, min, arith, Bool, true, false, cond, List, [], drop, refl, sym, ap, true≢false, ◌∙◌, eqb}
 use Rattle.common.specs.Stores.{part}
 use Rattle.words.specs.Words.{is_name}
@@ -73,6 +73,12 @@ pub filled_capped : (n k : ℕ) → filled grown (min most n) k ≡ min most (fi
 unfolding filled
 filled_capped n zero = refl
 filled_capped n (suc k) = rw (grown_capped n 0) (filled_capped (tenfold n 0) k)
+
+-- a place that is filled before the rest is one of the places
+pub filled_more : (grow : ℕ → ℕ → ℕ) (n k : ℕ) → 0 < k → filled grow (grow n 0) (k - 1) ≡ filled grow n k
+unfolding filled
+filled_more grow n zero h = absurd (omega arith)
+filled_more grow n (suc k) h = let e : suc k - 1 ≡ k = omega arith in rw e
 
 -- ## The forms that the code reads
 

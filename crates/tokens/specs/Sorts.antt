@@ -1,11 +1,11 @@
 -- How the code compares sorts of bytes, as their numbers compare.
-use Rattle.std.specs.Prelude.{◌<◌, ◌≤◌, ◌≡◌}
-use Rattle.std.specs.Ordering.{partial_lt}
-use Rattle.common.specs.Words.{ℕ, true, false, cond, refl, sym, ap, ◌∙◌, eqb, ltb, ltb-true, ltb-false}
+use Rattle.std.specs.Prelude.{◌<◌, ◌≤◌, ◌&&◌, ◌≡◌}
+use Rattle.std.specs.Ordering.{partial_lt, partial_le}
+use Rattle.common.specs.Words.{ℕ, true, false, leb, cond, refl, sym, ap, ◌∙◌, eqb, ltb, ltb-true, ltb-false}
 use Rattle.tokens.specs.declared.Sort.{Sort}
 use Rattle.tokens.specs.contracts.Sort.{the_type}
 use Rattle.tokens.specs.contracts.SortPartialOrd.TheImpl.{ghosts}
-use Rattle.tokens.specs.Tokens.{rank}
+use Rattle.tokens.specs.Tokens.{letter, digit, rank}
 use denote.Enum.Bare.{sameb, same_true, same_false}
 
 below : (a b : Sort) → partial_lt ghosts.partial_cmp a b ≡ ltb (rank a) (rank b)
@@ -41,12 +41,19 @@ sort_below a b h = ltb-true (rank a) (rank b) (sym (below a b) ∙ sym h)
 pub sort_above : (a b : Sort) → false ≡ partial_lt ghosts.partial_cmp a b → rank b ≤ rank a
 sort_above a b h = ltb-false (rank a) (rank b) (sym (below a b) ∙ sym h)
 
+-- the sorts of a name's bytes are the last three
+pub in_names : (a : Sort) → partial_le ghosts.partial_cmp Sort.Letter a ≡ (leb letter (rank a) && leb (rank a) digit)
+in_names Sort.Blank = refl
+in_names Sort.Sign = refl
+in_names Sort.Letter = refl
+in_names Sort.Underscore = refl
+in_names Sort.Digit = refl
+
 -- a sort by its number
-sort_with : ℕ → Sort
+abbrev pub sort_with : ℕ → Sort
 sort_with n = cond (eqb n 0) Sort.Blank (cond (eqb n 1) Sort.Sign (cond (eqb n 2) Sort.Letter (cond (eqb n 3) Sort.Underscore Sort.Digit)))
 
 ranked : (a : Sort) → sort_with (rank a) ≡ a
-unfolding sort_with
 ranked Sort.Blank = refl
 ranked Sort.Sign = refl
 ranked Sort.Letter = refl

@@ -52,6 +52,10 @@ sort_of b =
     (cond (ltb b 0x61) sign
     (cond (ltb b 0x7b) letter sign)))))))
 
+-- a byte that can stand in a name: a letter, a digit or an underscore
+abbrev pub in_name : ℕ → Bool
+in_name b = leb letter (sort_of b) && leb (sort_of b) digit
+
 -- how many bytes at the front are of the sorts from low to high
 unfoldable pub run : ℕ → ℕ → List ℕ → ℕ
 run low high [] = 0

@@ -13,7 +13,8 @@ use words::kinds::Kind;
 // How many brackets may be open within one value.
 const DEPTH: usize = 8;
 
-// Whether a part of a value may begin with a token of this kind.
+// Whether a part of a value may begin with a token of this kind. It is asked twice for each part.
+#[inline(always)]
 fn begins_part(kind: Kind) -> bool
     ensures { result ≡ part_kind kind }
 {

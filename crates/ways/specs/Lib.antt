@@ -4,3 +4,4 @@ pub mod Laws
 pub mod Options
 pub mod Props
 pub mod Named
+pub mod Firsts

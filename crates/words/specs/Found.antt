@@ -113,6 +113,30 @@ pub same_length : (v w : List ℕ) → (length v ≡ length w → ⊥) → same 
 same_length v w h =
     ⊎_elim (λ (e : same v w ≡ true). absurd (h (ap length (same_eq v w e)))) (λ (e : same v w ≡ false). e) (true_or_false (same v w))
 
+-- a number of a list from k on is none below k
+pub rank_from : (vs : List (List ℕ)) (k m other : ℕ) (w : List ℕ) → m ≤ k → m ≤ other → m ≤ rank vs k other w
+unfolding rank
+rank_from [] k m other w h g = g
+rank_from (v ∷ vs) k m other w h g = go (same v w) (rank_from vs (k + 1) m other w (omega arith) g)
+  where
+    go : (t : Bool) → m ≤ rank vs (k + 1) other w → m ≤ cond t k (rank vs (k + 1) other w)
+    go true r = h
+    go false r = r
+
+-- the kind of word k has the number 0x200 + k
+abbrev marked_at : ℕ → Bool
+marked_at k = eqb (mark (get_or kinds k Kind.Ended)) (0x200 + k)
+
+all_marked : every marked_at 82 ≡ true
+unfolding every kinds
+all_marked = refl
+
+pub mark_found : (w : List ℕ) (k : ℕ) → k < 82 → same w (word_at k) ≡ true → mark (kind_of w) ≡ 0x200 + k
+mark_found w k l h = ap mark (kind_found w k l h) ∙ eqb-true _ _ (every_at marked_at 82 k all_marked l)
+
+pub word_marked : (k : ℕ) → k < 82 → mark (kind_of (word_at k)) ≡ 0x200 + k
+word_marked k l = mark_found (word_at k) k l (same_refl (word_at k))
+
 -- a word's kind is none of a sign's, so not the text's end
 abbrev of_word : Kind → Bool
 of_word k = leb 0x200 (mark k) && ltb (mark k) 0x300

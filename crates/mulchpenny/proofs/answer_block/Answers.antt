@@ -26,12 +26,12 @@ returns-then-not-goes_on c =
     let o = c.feed-fed.ensures.outcome in
     let v = console_of l.desk l.memory in
     let moves : l.at < c.feed-fed.result.next =
-    next_moves v (carried l.carry) c.args.piece.now l.at l.out l.out _ _ _ _ _ o (omega arith) c.loop-at-test.true in
+    next_moves v (carried l.carry) c.args.piece.now l.at l.out l.out _ _ _ c.feed-fed.new.carry _ o (omega arith) c.loop-at-test.true in
     record {
       block_gives =
           record {
             inside = o.next_fits;
-            comes = comes_on v (carried l.carry) c.args.piece.now l.at l.out l.invariant.inside l.invariant.comes o;
+            comes = comes_on v (carried l.carry) c.args.piece.now l.at l.out c.feed-fed.new.carry l.invariant.inside l.invariant.comes o;
             whole = λ e. absurd (true≢false (sym e ∙ sym c.goes_on.ensures ∙ c.if-not-goes_on.true));
             moves = λ e. omega (arith, moves);
           };
@@ -42,7 +42,7 @@ pub loop-at-smaller : goal.loop-at-smaller
 loop-at-smaller c =
     let l = c.loop-at in
     let moves : l.at < c.feed-fed.result.next =
-    next_moves (console_of l.desk l.memory) (carried l.carry) c.args.piece.now l.at l.out l.out _ _ _ _ _
+    next_moves (console_of l.desk l.memory) (carried l.carry) c.args.piece.now l.at l.out l.out _ _ _ c.feed-fed.new.carry _
     c.feed-fed.ensures.outcome (omega arith) c.loop-at-test.true in
     omega (arith, moves, c.loop-at-test.true)
 
@@ -54,7 +54,9 @@ loop-at-preserved c =
       inside = o.next_fits;
       sound = c.feed-fed.ensures.sound_desk;
       gone = gone_on l.invariant.gone c.write_answers.ensures;
-      comes = comes_on (console_of l.desk l.memory) (carried l.carry) c.args.piece.now l.at l.out l.invariant.inside l.invariant.comes o;
+      comes =
+          comes_on (console_of l.desk l.memory) (carried l.carry) c.args.piece.now l.at l.out c.feed-fed.new.carry l.invariant.inside
+          l.invariant.comes o;
     }
 
 -- the block is used up

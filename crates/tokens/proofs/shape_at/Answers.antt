@@ -5,8 +5,8 @@ use Rattle.tokens.specs.Sorts.{sort_is}
 use Rattle.tokens.specs.Laws.{past_le, shape_word, shape_number, shape_sign}
 use Rattle.tokens.proofs.shape_at.Goals as goal
 
-pub word_kind-requires : goal.word_kind-requires
-word_kind-requires c =
+pub kind_of-requires : goal.kind_of-requires
+kind_of-requires c =
     let a = c.args in
     (omega (arith, c.past-end.ensures), omega (arith, c.past-end.ensures, past_le a.text.now 2 4 a.at (omega (arith, c.requires))))
 
@@ -16,7 +16,7 @@ overflow_sub-result c = omega (arith, c.past-end.ensures)
 pub returns-in-Letter : goal.returns-in-Letter
 returns-in-Letter c =
     let a = c.args in
-    rw c.word_kind.ensures (shape_word a.text.now a.at c.past-end.result c.past-end.ensures (sym c.in-Letter.ensures))
+    rw c.kind_of.ensures (shape_word a.text.now a.at c.past-end.result c.past-end.ensures (sym c.in-Letter.ensures))
 
 pub returns-in-Digit : goal.returns-in-Digit
 returns-in-Digit c =
@@ -26,6 +26,6 @@ pub returns-in_default : goal.returns-in_default
 returns-in_default c =
     let a = c.args in
     let s = c.sort_of in
-    rw (c.sign_shape.ensures, c.byte_at-in_default.ensures, c.byte_at.ensures)
+    rw c.sign_at.ensures
     (shape_sign a.text.now a.at (λ e. c.in_default.not-Letter (sort_is s.result Sort.Letter (s.ensures ∙ e)))
     (λ e. c.in_default.not-Digit (sort_is s.result Sort.Digit (s.ensures ∙ e))))

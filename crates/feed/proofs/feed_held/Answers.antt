@@ -1,4 +1,4 @@
--- `feed::feed`: the lines that end in the block take their turns. Both arms start from the frame of a line, and show only that what
+-- `feed::feed_held`: the lines that end in the block take their turns. Both arms start from the frame of a line, and show only that what
 -- they did is the turn of the line's bytes; that the loop goes on from there is said once for both.
 use Rattle.std.specs.Prelude.{◌-◌, ◌≤◌}
 use Rattle.common.specs.Words.{arith, refl, sym, ◌∙◌, length, take}
@@ -10,13 +10,15 @@ use Rattle.lines.specs.Ends.{end_past}
 use Rattle.feed.specs.Feed.{enough}
 use Rattle.feed.specs.Step.{part_rest, room_of}
 use Rattle.feed.specs.Turns.{Turned, underway_first, turn_short, turn_tail, turn_step, turn_fits}
-use Rattle.feed.proofs.feed.Goals as goal
+use Rattle.feed.proofs.feed_held.Goals as goal
 
 pub loop-out-init : goal.loop-out-init
 loop-out-init c =
-    let a = c.args in (
-      underway_first a.piece.now a.from a.memory.now a.out.now a.desk.now a.carry.now c.requires.0 c.requires.1,
+    let a = c.args in
+    let p = c.requires in (
+      underway_first a.piece.now a.from a.memory.now a.held.now a.out.now a.desk.now a.used.now p.2 p.0 p.1 p.3,
       remembers_nothing a.desk.now.plan,
+      refl,
       refl,
     )
 
@@ -24,16 +26,16 @@ loop-out-init c =
 pub returns-then-piece-e-clause-outcome : goal.returns-then-piece-e-clause-outcome
 returns-then-piece-e-clause-outcome c =
     let l = c.loop-out in
-    let k = c.keep in
+    let rest = part_rest c.args.piece.now l.at in
     rw c.end_of-e.ensures
-    (turn_tail l.invariant.0 k.new.self (rw (part_rest c.args.piece.now l.at) at k.ensures.used)
-    (rw (part_rest c.args.piece.now l.at) at k.ensures.held) c.loop-out-test.true (rw c.end_of-e.ensures at c.if-piece-e.true))
+    (turn_tail l.invariant.0 (rw rest at c.keep.ensures.0) (rw rest at c.keep.ensures.1) c.loop-out-test.true
+    (rw c.end_of-e.ensures at c.if-piece-e.true))
 
 pub bytes_until-n-requires : goal.bytes_until-n-requires
 bytes_until-n-requires c =
     let l = c.loop-out.invariant in
     let p = end_past c.args.piece.now c.loop-out.at in
-    (omega (arith, c.end_of-e.ensures, p), omega arith, omega (arith, l.2))
+    (l.0.used_fits, l.0.held_fits, omega (arith, c.end_of-e.ensures, p), omega arith, omega (arith, l.2))
 
 -- ## A call: 04, 05, or a frame that means nothing
 pub call_line-done-requires : goal.call_line-done-requires
@@ -69,8 +71,12 @@ loop-out-preserved-then-is_call c =
           c.payload_in.ensures.0 c.if-is_call.true c.call_line-done.ensures.0;
     } in
     let s = turn_step l.invariant.0 x _ c.loop-out-test.true c.end_of-e.ensures c.if-piece-e.false c.bytes_until-n.ensures.bytes refl
-    c.bytes_until-n.ensures.emptied in
-    (s, c.call_line-done.ensures.1, c.bytes_until-n.auto.bytes ∙ l.invariant.2)
+    (omega (arith, c.bytes_until-n.auto.held, l.invariant.0.held_fits)) c.bytes_until-n.ensures.emptied in (
+      s,
+      c.call_line-done.ensures.1,
+      c.bytes_until-n.auto.bytes ∙ l.invariant.2,
+      c.bytes_until-n.auto.held ∙ l.invariant.3,
+    )
 
 -- ## A frame that changes the desk as a whole
 pub set_table-written-requires : goal.set_table-written-requires
@@ -102,8 +108,12 @@ loop-out-preserved c =
       takes = table_taken l.desk _ _ _ c.frame_of-frame.ensures c.is_call.ensures c.if-is_call.false c.set_table-written.ensures;
     } in
     let s = turn_step l.invariant.0 x _ c.loop-out-test.true c.end_of-e.ensures c.if-piece-e.false c.bytes_until-n.ensures.bytes refl
-    c.bytes_until-n.ensures.emptied in
-    (s, remembers_nothing c.set_table-written.new.desk.plan, c.bytes_until-n.auto.bytes ∙ l.invariant.2)
+    (omega (arith, c.bytes_until-n.auto.held, l.invariant.0.held_fits)) c.bytes_until-n.ensures.emptied in (
+      s,
+      remembers_nothing c.set_table-written.new.desk.plan,
+      c.bytes_until-n.auto.bytes ∙ l.invariant.2,
+      c.bytes_until-n.auto.held ∙ l.invariant.3,
+    )
 
 -- ## The room is short
 pub returns-clause-outcome : goal.returns-clause-outcome

@@ -1,10 +1,10 @@
--- `lines::Carry::keep`: the part that is copied stands behind the carry.
+-- `lines::keep`: the part that is copied stands behind the carry.
 use Rattle.std.specs.Prelude.{◌≡◌, ◌+◌, ◌-◌, ◌≤◌}
 use Rattle.common.specs.Words.{ℕ, List, arith, min, length, take, length-take}
 use borrow.Rule.Slice.PartMut.{put_mid}
 use Rattle.lines.specs.Lines.{carry_limit}
 use Rattle.lines.specs.Held.{held_of, take_least, put_sets}
-use Rattle.lines.proofs.Carry.keep.Goals as goal
+use Rattle.lines.proofs.keep.Goals as goal
 
 kept_part :
     (held xs ys : List ℕ) (used n k : ℕ) → n ≡ min (carry_limit - used) (length xs) → k ≡ n → used + n ≤ length held → ys ≡
@@ -15,7 +15,9 @@ kept_part held xs ys used n k e i h f =
     let g : take n xs ≡ take (carry_limit - used) xs = rw e (take_least (carry_limit - used) xs) in
     rw (put_sets held ys used k (rw (i, f) (omega (arith, length-take n xs))) (omega arith), f, g)
 
-pub returns-clause-held : goal.returns-clause-held
-returns-clause-held c =
-    let k = c.args.self.now in
-    kept_part k.held c.args.xs.now _ k.used c.min-n.result _ (omega arith) (omega arith) (omega arith) c.copy_from_slice.ensures.after
+pub returns : goal.returns
+returns c =
+    let a = c.args in (
+      omega arith,
+      kept_part a.held.now a.xs.now _ a.used c.min-n.result _ (omega arith) (omega arith) (omega arith) c.copy_from_slice.ensures.after,
+    )
