@@ -1,8 +1,8 @@
 -- Keys and what they mean: a name is what is spelled at its place.
 use Rattle.std.specs.Prelude.{◌+◌, ◌*◌, ◌%◌, ◌<◌, ◌&&◌, ◌∷◌}
-use Rattle.common.specs.Words.{ℕ, Bool, cond, List, [], eqb, leb, take, drop}
+use Rattle.common.specs.Words.{ℕ, Bool, cond, List, [], eqb, take, drop}
 use Rattle.words.specs.Letters.{same}
-use Rattle.tokens.specs.Tokens.{sort_of, run, letter, digit}
+use Rattle.tokens.specs.Tokens.{run, in_name, letter, digit}
 use Rattle.keys.specs.declared.Key.{Key}
 use Rattle.keys.specs.declared.Lanes.{Lanes}
 
@@ -76,4 +76,4 @@ hash_of m = (lanes_of m).low + prime * (lanes_of m).high
 
 -- a byte that can stand in a name, 0 for any other
 unfoldable pub name_byte : ℕ → ℕ
-name_byte b = cond (leb letter (sort_of b) && leb (sort_of b) digit) b 0
+name_byte b = cond (in_name b) b 0

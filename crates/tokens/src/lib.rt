@@ -130,7 +130,7 @@ fn sign_at(text: &[u8], at: usize) -> Shape
     Shape { kind, width }
 }
 
-// The kind of a word. What finds it is not compiled into what asks: every sign would pay for the registers that it takes.
+// The kind of a word, in a call of its own: compiled into `spot_at`, it would have every sign save the registers that it takes.
 #[inline(never)]
 fn kind_of(text: &[u8], start: usize, end: usize) -> Kind
     requires { (start ≤ end) × (end ≤ length text.now) }

@@ -1,25 +1,18 @@
 -- Along a way by numbers, where 0 stands for none: one type more, and a thread's properties. Options.antt says the same of options.
 use Rattle.std.specs.Prelude.{◌-◌, ◌<◌, ◌≤◌, ◌∷◌, ◌≡◌}
-use Rattle.common.specs.Words.{ℕ, zero, suc, arith, Bool, true, false, cond, List, [], refl, sym, ◌∙◌, eqb, eq-eqb, ne_eqb}
+use Rattle.common.specs.Words.{ℕ, zero, suc, arith, Bool, true, false, cond, List, refl, sym, ◌∙◌, eqb, eq-eqb, ne_eqb}
 use Rattle.std.proofs.Math.Numerals.{unary_clauses}
 use Rattle.rows.specs.Rows.{Row}
 use Rattle.index.specs.Index.{cell}
 use Rattle.ways.specs.Ways.{implementation_of, way_by, way, first_in, given, property_of, ends}
-use Rattle.ways.specs.Laws.{first_append}
+use Rattle.ways.specs.Laws.{way_none, way_step, first_append}
 
 -- ## One type more
 
-module _ (up : ℕ → ℕ) where
-  way_none : (left : ℕ) → way_by up left 0 ≡ []
-  unfolding way_by
-  way_none zero = refl
-  way_none (suc left) = refl
-
-  way_step : (left n : ℕ) → 0 < left → 0 < n → way_by up left n ≡ ((n - 1) ∷ way_by up (left - 1) (up (n - 1)))
-  unfolding way_by
-  way_step zero n l h = absurd (omega arith)
-  way_step (suc left) zero l h = absurd (omega arith)
-  way_step (suc left) (suc k) l h = simp unary_clauses refl
+-- the first row on a way from number n, where n is one
+number_step : (up : ℕ → ℕ) (left n : ℕ) → 0 < left → 0 < n → way_by up left n ≡ ((n - 1) ∷ way_by up (left - 1) (up (n - 1)))
+number_step up left zero l h = absurd (omega arith)
+number_step up left (suc k) l h = let e : suc k - 1 ≡ k = omega arith in rw e (way_step up left k l)
 
 -- what a loop along the way keeps: what is left of it has what the whole has
 pub record FirstLeft (up has : ℕ → ℕ) (left n all : ℕ) : Type 0 where
@@ -38,13 +31,13 @@ module _ {up has : ℕ → ℕ} {left n all : ℕ} (x : FirstLeft up has left n 
   -- the row here has it
   pub first_here : {v : ℕ} → 0 < left → 0 < n → v ≡ has (n - 1) → (v ≡ 0 → ⊥) → v ≡ all
   unfolding first_in
-  first_here {v} l h i z = i ∙ rw (way_step up left n l h, ne_eqb (has (n - 1)) 0 (rw i at z)) at x.same
+  first_here {v} l h i z = i ∙ rw (number_step up left n l h, ne_eqb (has (n - 1)) 0 (rw i at z)) at x.same
 
   -- it has not, and those above are left
   pub first_on : {v m : ℕ} → 0 < left → 0 < n → v ≡ has (n - 1) → v ≡ 0 → m ≡ up (n - 1) → FirstLeft up has (left - 1) m all
   unfolding first_in
   first_on {v} {m} l h i z u =
-      record { same = rw u (rw (way_step up left n l h, eq-eqb (has (n - 1)) 0 (sym i ∙ z)) at x.same) }
+      record { same = rw u (rw (number_step up left n l h, eq-eqb (has (n - 1)) 0 (sym i ∙ z)) at x.same) }
 
 -- and it ends as the whole does
 pub record EndsLeft (up : ℕ → ℕ) (rows : List Row) (left n : ℕ) (all : Bool) : Type 0 where
@@ -63,14 +56,14 @@ module _ {up : ℕ → ℕ} {rows : List Row} {left n : ℕ} {all : Bool} (x : E
   -- the type here extends none
   pub ends_here : {v : ℕ} → 0 < left → 0 < n → v ≡ cell rows (n - 1) 3 → v ≡ 0 → true ≡ all
   unfolding ends
-  ends_here l h i z = rw (way_step up left n l h, eq-eqb (cell rows (n - 1) 3) 0 (sym i ∙ z)) at x.same
+  ends_here l h i z = rw (number_step up left n l h, eq-eqb (cell rows (n - 1) 3) 0 (sym i ∙ z)) at x.same
 
   -- it extends one, and those above are left
   pub ends_on : {v m : ℕ} → 0 < left → 0 < n → v ≡ cell rows (n - 1) 3 →
       (v ≡ 0 → ⊥) → m ≡ up (n - 1) → EndsLeft up rows (left - 1) m all
   unfolding ends
   ends_on {v} {m} l h i z u =
-      record { same = rw u (rw (way_step up left n l h, ne_eqb (cell rows (n - 1) 3) 0 (rw i at z)) at x.same) }
+      record { same = rw u (rw (number_step up left n l h, ne_eqb (cell rows (n - 1) 3) 0 (rw i at z)) at x.same) }
 
 -- ## A thread's properties
 

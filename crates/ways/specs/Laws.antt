@@ -32,12 +32,12 @@ known_bounded {p} {rows} {declared} {types} {count} x =
 
 -- ## One type more
 
-way_none : (up : ℕ → ℕ) (left : ℕ) → way_by up left 0 ≡ []
+pub way_none : (up : ℕ → ℕ) (left : ℕ) → way_by up left 0 ≡ []
 unfolding way_by
 way_none up zero = refl
 way_none up (suc left) = refl
 
-way_step : (up : ℕ → ℕ) (left k : ℕ) → 0 < left → way_by up left (suc k) ≡ k ∷ way_by up (left - 1) (up k)
+pub way_step : (up : ℕ → ℕ) (left k : ℕ) → 0 < left → way_by up left (suc k) ≡ k ∷ way_by up (left - 1) (up k)
 unfolding way_by
 way_step up zero k l = absurd (omega arith)
 way_step up (suc left) k l = simp unary_clauses refl
